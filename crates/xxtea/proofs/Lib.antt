@@ -1,0 +1,4 @@
+-- The laws of the cipher that belong to no one function.
+pub mod Laws
+mod Walk
+pub mod Inverse

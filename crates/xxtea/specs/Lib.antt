@@ -1,0 +1,3 @@
+-- The root of the cipher's definitions.
+pub mod Xxtea
+pub mod Claims
