@@ -44,11 +44,11 @@ module _ (n : ℕ) where
       let q : 52 / n < 27 = div-lt-iff-lt-mul {k = n} {x = 52} {y = 27} (omega arith) .1 (omega arith) in
       omega arith
 
-  pub some-rounds : 0 < roundsFor n → (2 ≤ n) × (n ≤ 1024)
+  pub some-rounds : 0 < roundsFor n → 2 ≤ n
   some-rounds h = go (taken n) refl
     where
-      go : (t : Bool) → taken n ≡ t → (2 ≤ n) × (n ≤ 1024)
-      go true e = taken-both e
+      go : (t : Bool) → taken n ≡ t → 2 ≤ n
+      go true e = taken-both e .0
       go false e = absurd (omega (arith, rounds-taken false e))
 
 -- the neighbours' places, without a remainder

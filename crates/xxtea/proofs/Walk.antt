@@ -85,15 +85,16 @@ mixed down behind ahead = mix ahead behind
 
 -- the store of a changed word is a step
 stepped :
-    (d : Direction) (key : List ℕ) (sum p : ℕ) (ws : List ℕ) {x b a v : ℕ}
+    (d : Direction) (key : List ℕ) (sum p : ℕ) (ws : List ℕ) {x b a m v : ℕ}
     → x ≡ getD ws p 0
     → b ≡ getD ws (side d (length ws) p) 0
     → a ≡ getD ws (side (opposite d) (length ws) p) 0
-    → v ≡ change d x (mixed d b a sum (keyWord key sum p))
+    → m ≡ mixed d b a sum (keyWord key sum p)
+    → v ≡ change d x m
     → set ws p v ≡ step d key sum p ws
 unfolding step mixAt
-stepped up key sum p ws ex eb ea ev = ap (set ws p) (cc)
-stepped down key sum p ws ex eb ea ev = ap (set ws p) (cc)
+stepped up key sum p ws ex eb ea em ev = ap (set ws p) (cc)
+stepped down key sum p ws ex eb ea em ev = ap (set ws p) (cc)
 
 module _ (d : Direction) (key : List ℕ) (sum : ℕ) (ws : List ℕ) where
   -- A round that began with ws stands before word p of w: x is that word, b the neighbour behind it.
@@ -127,30 +128,34 @@ module _ (d : Direction) (key : List ℕ) (sum : ℕ) (ws : List ℕ) where
         behind = sym (ap (λ (i : ℕ). getD ws i 0) (circle d (length ws) h));
       }
 
-  module _ {w : List ℕ} {p x b : ℕ} (s : Stands d key sum ws w p x b) {a v : ℕ} (e : v ≡ change d x (mixed d b a sum (keyWord key sum p))) where
-    store : a ≡ getD w (side (opposite d) (length ws) p) 0 → set w p v ≡ step d key sum p w
-    store h = stepped d key sum p w (s .here) (rw (s .size) (s .behind)) (rw (s .size) h) e
+  -- word p is stored as v, changed by its mix m, which a, the word ahead, has gone into
+  module _
+      {w : List ℕ} {p x b : ℕ} (s : Stands d key sum ws w p x b)
+      {a m v : ℕ} (em : m ≡ mixed d b a sum (keyWord key sum p)) (ev : v ≡ change d x m)
+    where
+      store : a ≡ getD w (side (opposite d) (length ws) p) 0 → set w p v ≡ step d key sum p w
+      store h = stepped d key sum p w (s .here) (rw (s .size) (s .behind)) (rw (s .size) h) em ev
 
-    more : a ≡ getD w (side (opposite d) (length ws) p) 0 → Done d (step d key sum) (length ws) (bound (opposite d) p) ws (set w p v)
-    more h = done-more (step d key sum) (length ws) ws d p (s .done) (store h)
+      more : a ≡ getD w (side (opposite d) (length ws) p) 0 → Done d (step d key sum) (length ws) (bound (opposite d) p) ws (set w p v)
+      more h = done-more (step d key sum) (length ws) ws d p (s .done) (store h)
 
-    pub stands-next : (q : ℕ) → Follows d p q → q < length ws → a ≡ getD w q 0 → Stands d key sum ws (set w p v) q a v
-    stands-next q f hq h =
-        record {
-          inside = hq;
-          size = length-set w p v ∙ s .size;
-          done = rw (sym (follows-bound d p q f)) (more (rw (ahead d (length ws) p q f (s .inside) hq) h));
-          here = h ∙ sym (getD-set-other w p q v 0 (follows-other d p q f));
-          behind = rw (behind d (length ws) p q f (s .inside) hq) (sym (getD-set-same w p v 0 (omega (arith, s .size, s .inside))));
-        }
+      pub stands-next : (q : ℕ) → Follows d p q → q < length ws → a ≡ getD w q 0 → Stands d key sum ws (set w p v) q a v
+      stands-next q f hq h =
+          record {
+            inside = hq;
+            size = length-set w p v ∙ s .size;
+            done = rw (sym (follows-bound d p q f)) (more (rw (ahead d (length ws) p q f (s .inside) hq) h));
+            here = h ∙ sym (getD-set-other w p q v 0 (follows-other d p q f));
+            behind = rw (behind d (length ws) p q f (s .inside) hq) (sym (getD-set-same w p v 0 (omega (arith, s .size, s .inside))));
+          }
 
-    pub stands-last : p ≡ first (opposite d) (length ws) → a ≡ getD w (first d (length ws)) 0 → set w p v ≡ round d key sum ws
-    unfolding round
-    stands-last l h =
-        let n = length ws in
-        let pos : 0 < n = omega (arith, s .inside) in
-        let ahead : side (opposite d) n p ≡ first d n = ap (side (opposite d) n) l ∙ circle (opposite d) n pos ∙ ap (λ (d : Direction). first d n) (opposite-twice d) in
-        done-all (step d key sum) n ws d (rw (sym (first-bound (opposite d) n pos), sym l) (more (rw ahead h)))
+      pub stands-last : p ≡ first (opposite d) (length ws) → a ≡ getD w (first d (length ws)) 0 → set w p v ≡ round d key sum ws
+      unfolding round
+      stands-last l h =
+          let n = length ws in
+          let pos : 0 < n = omega (arith, s .inside) in
+          let ahead : side (opposite d) n p ≡ first d n = ap (side (opposite d) n) l ∙ circle (opposite d) n pos ∙ ap (λ (d : Direction). first d n) (opposite-twice d) in
+          done-all (step d key sum) n ws d (rw (sym (first-bound (opposite d) n pos), sym l) (more (rw ahead h)))
 
 -- The cipher, begun with ws, has come to w, and k is what `Done` says of the rounds.
 pub record Rounds (d : Direction) (key ws w : List ℕ) (k : ℕ) : Type 0 where
@@ -172,7 +177,7 @@ module _ (d : Direction) (key ws : List ℕ) where
 
   module _ {w : List ℕ} (r : ℕ) (s : Rounds d key ws w (bound d r)) (l : r < roundsFor (length ws)) where
     -- a round is asked for only where the length is taken
-    pub rounds-fit : (2 ≤ length w) × (length w ≤ 1024)
+    pub rounds-fit : 2 ≤ length w
     rounds-fit = rw (s .size) (some-rounds (length ws) (omega arith))
 
     pub rounds-next : {w′ : List ℕ} (sum : ℕ) → sum ≡ sumIn (r + 1) → w′ ≡ round d key sum w → length w′ ≡ length w → Rounds d key ws w′ (bound (opposite d) r)

@@ -48,7 +48,7 @@ fn mix(z: u32, y: u32, sum: u32, key: &[u32; 4], p: usize) -> u32
 
 // A round of enciphering. x is word p and z the one before it: the loop reads each word once.
 fn round_up(words: &mut [u32], key: &[u32; 4], sum: u32)
-    requires { ⌜ (2 ≤ length (now words)) × (length (now words) ≤ 1024) ⌝ }
+    requires { ⌜ 2 ≤ length (now words) ⌝ }
     ensures { λ _. ⌜ now (words .exit) ≡ round up (now (key .entry)) sum (now (words .entry)) ⌝ }
 {
     let last = words.len() - 1;
@@ -68,7 +68,7 @@ fn round_up(words: &mut [u32], key: &[u32; 4], sum: u32)
 
 // A round of deciphering, downwards. x is word p and y the one after it.
 fn round_down(words: &mut [u32], key: &[u32; 4], sum: u32)
-    requires { ⌜ (2 ≤ length (now words)) × (length (now words) ≤ 1024) ⌝ }
+    requires { ⌜ 2 ≤ length (now words) ⌝ }
     ensures { λ _. ⌜ now (words .exit) ≡ round down (now (key .entry)) sum (now (words .entry)) ⌝ }
 {
     let last = words.len() - 1;

@@ -1,11 +1,11 @@
 -- `xxtea::round_down` meets its contract. The invariant: the steps above p are done, and x and y are word p and the one after it.
 -- The measure is p. Assumes nothing.
-use mathlib.Core.Path.{_≡_, refl, ap, _∙_}
+use mathlib.Core.Path.{_≡_, refl}
 use Prim.Native.Nat.{_-_}
 use native.Mathlib.Omega.{arith}
 use Rattle.xxtea.proofs.Laws.{minus-of}
 use Rattle.xxtea.proofs.Walk.{Stands, stands-first, stands-next, stands-last}
-use Rattle.xxtea.specs.Xxtea.{down, minus}
+use Rattle.xxtea.specs.Xxtea.{down}
 use borrow.Author.Needs.{needs}
 use Rattle.xxtea.proofs.round_down.Statement.{statement}
 use Rattle.xxtea.proofs.round_down.Tie as tie
@@ -61,9 +61,9 @@ loop-less c = search needs
 loop-again : tie.Need-loop-again Inv-loop μ-loop
 loop-again c =
     let at = c .before .before .before .before .loop in
-    let sub = c .wrapping-sub-u32 in
-    let difference = minus-of (sub .ok) (c .before .mix .ok) (sub .ensures) ∙ ap (minus (at .x)) (c .before .mix .ensures) in
-    stands-next down _ _ _ (at .inv) difference (at .p - 1) (omega arith) (omega (arith, at .inv .inside)) refl
+    let m = c .before .mix in
+    let difference = minus-of (c .wrapping-sub-u32 .ok) (m .ok) (c .wrapping-sub-u32 .ensures) in
+    stands-next down _ _ _ (at .inv) (m .ensures) difference (at .p - 1) (omega arith) (omega (arith, at .inv .inside)) refl
 
 mul-z-2 : tie.Need-mul-z-2 Inv-loop μ-loop
 mul-z-2 c = search needs
@@ -86,10 +86,10 @@ same-length c = search needs
 returns : tie.Need-returns Inv-loop μ-loop
 returns c =
     let at = c .before .before .before .before .loop in
-    let sub = c .wrapping-sub-u322 in
-    let difference = minus-of (sub .ok) (c .before .mix2 .ok) (sub .ensures) ∙ ap (minus (at .x)) (c .before .mix2 .ensures) in
+    let m = c .before .mix2 in
+    let difference = minus-of (c .wrapping-sub-u322 .ok) (m .ok) (c .wrapping-sub-u322 .ensures) in
     let end : at .p ≡ 0 = omega arith in
-    stands-last down _ _ _ (rw end at (at .inv)) difference refl refl
+    stands-last down _ _ _ (rw end at (at .inv)) (m .ensures) difference refl refl
 
 pub round-down-spec : {M : Type 1} → statement M
 round-down-spec =

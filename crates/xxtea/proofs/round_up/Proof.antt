@@ -1,11 +1,11 @@
 -- `xxtea::round_up` meets its contract. The invariant: the steps below p are done, and x and z are word p and the one before it.
 -- The measure is how many words are left. Assumes nothing.
-use mathlib.Core.Path.{_≡_, refl, ap, _∙_}
+use mathlib.Core.Path.{_≡_, refl}
 use Prim.Native.Nat.{_+_, _-_}
 use native.Mathlib.Omega.{arith}
 use lib.ListN.{length}
 use Rattle.xxtea.proofs.Walk.{Stands, stands-first, stands-next, stands-last}
-use Rattle.xxtea.specs.Xxtea.{up, plus}
+use Rattle.xxtea.specs.Xxtea.{up}
 use borrow.Author.Needs.{needs}
 use Rattle.xxtea.proofs.round_up.Statement.{statement}
 use Rattle.xxtea.proofs.round_up.Tie as tie
@@ -61,8 +61,7 @@ loop-less c = search needs
 loop-again : tie.Need-loop-again Inv-loop μ-loop
 loop-again c =
     let at = c .before .before .before .before .loop in
-    let sum = c .wrapping-add-u32 .ensures ∙ ap (plus (at .x)) (c .before .mix .ensures) in
-    stands-next up _ _ _ (at .inv) sum (at .p + 1) refl (omega arith) refl
+    stands-next up _ _ _ (at .inv) (c .before .mix .ensures) (c .wrapping-add-u32 .ensures) (at .p + 1) refl (omega arith) refl
 
 slice-read-y-2 : tie.Need-slice-read-y-2 Inv-loop μ-loop
 slice-read-y-2 c = search needs
@@ -84,10 +83,9 @@ same-length c = search needs
 
 returns : tie.Need-returns Inv-loop μ-loop
 returns c =
-    let at = c .before .before .before .before .loop in
-    let sum = c .wrapping-add-u322 .ensures ∙ ap (plus (at .x)) (c .before .mix2 .ensures) in
-    let end : at .p ≡ length (c .before .before .before .before .before .before .before .before .args .words .now) - 1 = omega arith in
-    stands-last up _ _ _ (rw end at (at .inv)) sum refl refl
+    let at = c .before .before .before .before in
+    let end : at .loop .p ≡ length (at .before .before .before .before .args .words .now) - 1 = omega arith in
+    stands-last up _ _ _ (rw end at (at .loop .inv)) (c .before .mix2 .ensures) (c .wrapping-add-u322 .ensures) refl refl
 
 pub round-up-spec : {M : Type 1} → statement M
 round-up-spec =
