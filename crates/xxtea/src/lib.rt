@@ -39,7 +39,7 @@ fn mix(z: u32, y: u32, sum: u32, key: &[u32; 4], p: usize) -> u32
 {
     let e = (sum / 4 % 4) as usize;
     let k = key[p % 4 ^ e];
-    // y << 2 is the last use of y, so that it is shifted in place: measured, it is faster.
+    // y << 2 is the last use of y: of the orders tried, this one measured fastest.
     let right = y >> 3 ^ z << 4;
     let summed = sum ^ y;
     let left = z >> 5 ^ y << 2;
