@@ -1,0 +1,153 @@
+-- Laws of parts, stores and numbers of bytes.
+use Prim.Native.Nat.{ℕ, zero, suc, _+_, _-_, _*_, _/_, _%_, _^_, _≤_, _<_, min}
+use mathlib.Core.Path.{_≡_, refl, sym, ap, _∙_}
+use mathlib.Core.Bool.{true}
+use mathlib.Core.List.{List, [], _∷_, _++_}
+use native.Mathlib.Omega.{arith}
+use native.Mathlib.Nat.{div-add-mod', div-lt-iff-lt-mul, pow-suc}
+use lib.ListN.{length, take, drop, length-take, length-drop, length-append}
+use lib.Seq.{ext-getD, getD-take, getD-drop}
+use borrow.Author.Tests.{eq-eqb}
+use Rattle.rules.specs.Bytes.{part, put, byte, same, xor, bytesOf, number, numberFrom}
+
+-- no byte is both among the n at a and among the m at x
+abbrev pub Apart : ℕ → ℕ → ℕ → ℕ → Type 0
+Apart a n x m = (i : ℕ) → a ≤ i → i < a + n → x ≤ i → i < x + m → ⊥
+
+-- ---- a store, byte by byte
+
+pub length-put : (a : ℕ) (bs t : List ℕ) → length (put a bs t) ≡ length t
+unfolding put
+length-put a bs [] = refl
+length-put zero [] (x ∷ t) = refl
+length-put zero (b ∷ bs) (x ∷ t) = ap suc (length-put zero bs t)
+length-put (suc a) bs (x ∷ t) = ap suc (length-put a bs t)
+
+pub byte-put-out : (a : ℕ) (bs t : List ℕ) (i : ℕ) → (a ≤ i → i < a + length bs → ⊥) → byte i (put a bs t) ≡ byte i t
+unfolding put
+byte-put-out a bs [] i h = refl
+byte-put-out zero [] (x ∷ t) i h = refl
+byte-put-out zero (b ∷ bs) (x ∷ t) zero h = absurd (h (omega arith) (omega arith))
+byte-put-out zero (b ∷ bs) (x ∷ t) (suc i) h = byte-put-out zero bs t i (λ p q. h (omega arith) (omega arith))
+byte-put-out (suc a) bs (x ∷ t) zero h = refl
+byte-put-out (suc a) bs (x ∷ t) (suc i) h = byte-put-out a bs t i (λ p q. h (omega arith) (omega arith))
+
+pub byte-put : (a b : ℕ) (t : List ℕ) → a < length t → byte a (put a (b ∷ []) t) ≡ b
+unfolding put
+byte-put a b [] h = absurd (omega arith)
+byte-put zero b (x ∷ t) h = refl
+byte-put (suc a) b (x ∷ t) h = byte-put a b t (omega arith)
+
+-- ---- a part after a store
+
+pub length-part : (a n : ℕ) (t : List ℕ) → length (part a n t) ≡ min n (length t - a)
+unfolding part
+length-part a n t = simp (length-take, length-drop)
+
+pub byte-part : (a n : ℕ) (t : List ℕ) (i : ℕ) → i < n → byte i (part a n t) ≡ byte (a + i) t
+unfolding part
+byte-part a n t i h = getD-take n (drop a t) i 0 h ∙ getD-drop a t i 0
+
+-- what is stored elsewhere does not change a part
+pub part-put : (a n x : ℕ) (bs t : List ℕ) → Apart x (length bs) a n → part a n (put x bs t) ≡ part a n t
+part-put a n x bs t h = ext-getD 0 (part a n (put x bs t)) (part a n t) as-long at-each
+  where
+    as-long : length (part a n (put x bs t)) ≡ length (part a n t)
+    as-long =
+        length-part a n (put x bs t) ∙ ap (λ k. min n (k - a)) (length-put x bs t) ∙ sym (length-part a n t)
+
+    at-each : (i : ℕ) → i < length (part a n (put x bs t)) → byte i (part a n (put x bs t)) ≡ byte i (part a n t)
+    at-each i q =
+        let b : i < n = omega (arith, length-part a n (put x bs t)) in
+        byte-part a n (put x bs t) i b
+        ∙ byte-put-out x bs t (a + i) (λ p r. h (a + i) p r (omega arith) (omega arith))
+        ∙ sym (byte-part a n t i b)
+
+-- what is stored is there
+pub part-put-same : (a : ℕ) (bs t : List ℕ) → a + length bs ≤ length t → part a (length bs) (put a bs t) ≡ bs
+unfolding part put
+part-put-same zero [] [] h = refl
+part-put-same (suc a) [] [] h = refl
+part-put-same zero (b ∷ bs) [] h = absurd (omega arith)
+part-put-same (suc a) (b ∷ bs) [] h = absurd (omega arith)
+part-put-same zero [] (x ∷ t) h = refl
+part-put-same zero (b ∷ bs) (x ∷ t) h = ap {B = List ℕ} (λ r. b ∷ r) (part-put-same zero bs t (omega arith))
+part-put-same (suc a) bs (x ∷ t) h = part-put-same a bs t (omega arith)
+
+-- a store at the start of a part is a store in the part
+take-put : (n : ℕ) (bs t : List ℕ) → take n (put 0 bs t) ≡ put 0 bs (take n t)
+unfolding put
+take-put zero bs [] = refl
+take-put zero [] (x ∷ t) = refl
+take-put zero (b ∷ bs) (x ∷ t) = refl
+take-put (suc n) bs [] = refl
+take-put (suc n) [] (x ∷ t) = refl
+take-put (suc n) (b ∷ bs) (x ∷ t) = ap {B = List ℕ} (λ r. b ∷ r) (take-put n bs t)
+
+pub part-put-start : (a n : ℕ) (bs t : List ℕ) → part a n (put a bs t) ≡ put 0 bs (part a n t)
+unfolding part put
+part-put-start zero n bs t = take-put n bs t
+part-put-start (suc a) zero bs [] = refl
+part-put-start (suc a) (suc n) bs [] = refl
+part-put-start (suc a) n bs (x ∷ t) = part-put-start a n bs t
+
+-- two stores that touch no common byte may change places
+pub put-comm : (a x : ℕ) (bs ys t : List ℕ) → Apart a (length bs) x (length ys)
+    → put a bs (put x ys t) ≡ put x ys (put a bs t)
+unfolding put
+put-comm a x bs ys [] h = refl
+put-comm zero zero [] [] (z ∷ t) h = refl
+put-comm zero zero (b ∷ bs) [] (z ∷ t) h = refl
+put-comm zero zero [] (y ∷ ys) (z ∷ t) h = refl
+put-comm zero zero (b ∷ bs) (y ∷ ys) (z ∷ t) h = absurd (h 0 (omega arith) (omega arith) (omega arith) (omega arith))
+put-comm zero (suc x) [] ys (z ∷ t) h = refl
+put-comm zero (suc x) (b ∷ bs) ys (z ∷ t) h =
+    ap {B = List ℕ} (λ r. b ∷ r)
+    (put-comm zero x bs ys t (λ i p q u v. h (suc i) (omega arith) (omega arith) (omega arith) (omega arith)))
+put-comm (suc a) zero bs [] (z ∷ t) h = refl
+put-comm (suc a) zero bs (y ∷ ys) (z ∷ t) h =
+    ap {B = List ℕ} (λ r. y ∷ r)
+    (put-comm a zero bs ys t (λ i p q u v. h (suc i) (omega arith) (omega arith) (omega arith) (omega arith)))
+put-comm (suc a) (suc x) bs ys (z ∷ t) h =
+    ap {B = List ℕ} (λ r. z ∷ r)
+    (put-comm a x bs ys t (λ i p q u v. h (suc i) (omega arith) (omega arith) (omega arith) (omega arith)))
+
+pub length-xor : (xs ys : List ℕ) → length (xor xs ys) ≡ length xs
+unfolding xor
+length-xor [] ys = refl
+length-xor (x ∷ xs) [] = refl
+length-xor (x ∷ xs) (y ∷ ys) = ap suc (length-xor xs ys)
+
+pub same-refl : (xs : List ℕ) → same xs xs ≡ true
+unfolding same
+same-refl [] = refl
+same-refl (x ∷ xs) = rw (eq-eqb x x refl, same-refl xs)
+
+-- ---- numbers as bytes
+
+pub length-bytesOf : (n v : ℕ) → length (bytesOf n v) ≡ n
+unfolding bytesOf
+length-bytesOf zero v = refl
+length-bytesOf (suc n) v =
+    let e = length-append (bytesOf n (v / 256)) (v % 256 ∷ []) in
+    let h = length-bytesOf n (v / 256) in
+    omega (arith, e, h)
+
+numberFrom-last : (a b : ℕ) (bs : List ℕ) → numberFrom a (bs ++ (b ∷ [])) ≡ numberFrom a bs * 256 + b
+unfolding numberFrom
+numberFrom-last a b [] = refl
+numberFrom-last a b (x ∷ bs) = numberFrom-last (a * 256 + x) b bs
+
+-- n bytes hold every number below 256 ^ n
+pub number-bytesOf : (n v : ℕ) → v < 256 ^ n → number (bytesOf n v) ≡ v
+unfolding bytesOf numberFrom
+number-bytesOf zero v h = omega arith
+number-bytesOf (suc n) v h =
+    let p : 256 ^ suc n ≡ 256 ^ n * 256 = pow-suc 256 n in
+    let l : v / 256 < 256 ^ n = div-lt-iff-lt-mul {k = 256} {x = v} {y = 256 ^ n} (omega arith) .1 (omega (arith, p)) in
+    numberFrom-last 0 (v % 256) (bytesOf n (v / 256)) ∙ ap (λ x. x * 256 + v % 256) (number-bytesOf n (v / 256) l) ∙ div-add-mod' v 256
+
+pub part-front : (xs ys : List ℕ) → part 0 (length xs) (xs ++ ys) ≡ xs
+unfolding part
+part-front [] ys = refl
+part-front (x ∷ xs) ys = ap {B = List ℕ} (λ r. x ∷ r) (part-front xs ys)

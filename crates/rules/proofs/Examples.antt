@@ -1,0 +1,55 @@
+-- The examples, computed.
+use Prim.Native.Nat.{ℕ}
+use mathlib.Core.Path.{_≡_, refl, ap}
+use native.Mathlib.Omega.{arith}
+use lib.Dec.{lit<}
+use Rattle.rules.specs.Bytes.{put, part, numberFrom, same, zeros, xor, all, byte}
+use Rattle.rules.specs.Map.{segments, publics, counter, flag, most, managements, segmentsAt, soundness, sound, registerNo, rows, liesIn, find, placeOf}
+use Rattle.rules.specs.Units.{unitBytes, bit, stageOf, modelOf, unitOf, nameOf, modelFits, formedness, wellFormed}
+use Rattle.rules.specs.State.{poweredUp, withRead, withWrite, withEdit, withName, withId, withPa, pin, pinIndex, owner, ownerIndex, guard, encipheredCounter, response}
+use Rattle.rules.specs.Refusals.{lowest, isNext, headerWriteChecks, segmentReadChecks, slotRefuses, segmentWriteChecks, unitReadChecks, isReceiver, pastStageZero, sameBool, keepsModel, editAllowed, editChecks, canAdvance, advanceChecks, plainChecks, responseChecks, nameChecks, commitChecks, registerChecks, readChecks, writeChecks}
+use Rattle.rules.specs.Effects.{apply, stored, readOnly, writeMove, advanced, advanceStores, registerStores, registerSession, writeStores, writeSession, refusalStores}
+use Rattle.rules.specs.Command.{refusal, inPlace, checks, stores, storesIn, sessionIn, newSession, grant, reply, replyBy, afterBy, after, filled}
+use Rattle.rules.specs.Run.{final, replies}
+use Rattle.rules.specs.Log.{kinds, kindIn, bodyLength, commandOf, wholeOf, first, parsedBy, parsed, commandsOf, readCode, encoded, encodedAll, roomFor, stopped, onward, carriedOut, runLog}
+use Rattle.rules.specs.Examples.{StarredHold, ErrorsShown, NotEmpty, RepeatsChange, owed, tagWith, counterTag, eight, begin, got, starred, errors, xorWrite, nameWrite, xorState, nameState}
+
+-- all of them under one list of what is opened
+computed : StarredHold × ErrorsShown × NotEmpty × RepeatsChange
+unfolding part put numberFrom same zeros xor all segments publics counter flag most managements segmentsAt soundness
+    sound registerNo rows liesIn find placeOf unitBytes bit stageOf modelOf unitOf nameOf modelFits formedness
+    wellFormed poweredUp withRead withWrite withEdit withName withId withPa pinIndex ownerIndex guard pin owner
+    encipheredCounter response lowest isNext headerWriteChecks segmentReadChecks slotRefuses segmentWriteChecks
+    unitReadChecks isReceiver pastStageZero sameBool keepsModel editAllowed editChecks canAdvance advanceChecks
+    plainChecks responseChecks nameChecks commitChecks registerChecks readChecks writeChecks apply stored readOnly
+    writeMove advanced advanceStores registerStores registerSession writeStores writeSession refusalStores inPlace
+    checks refusal storesIn sessionIn stores newSession grant replyBy reply afterBy after filled final replies
+    kinds kindIn bodyLength commandOf wholeOf first parsedBy parsed commandsOf readCode encoded encodedAll roomFor
+    stopped onward carriedOut runLog tagWith counterTag eight begin got owed starred errors xorWrite nameWrite
+    xorState nameState
+computed = (
+  refl,
+  refl,
+  record {
+    tag-sound = refl;
+    segment-locked = record { counter = record { there = lit< tt; formed = refl; counts = refl }; locked = refl };
+  },
+  record {
+    xor-granted = refl;
+    xor-changes = λ e. let z : _≡_ {A = ℕ} 0 1 = ap (λ s. byte 16384 (s .tag)) e in absurd (omega arith);
+    name-granted = refl;
+    name-changes = λ e. let z : _≡_ {A = ℕ} 1 0 = ap (λ s. byte 12 (s .tag)) e in absurd (omega arith);
+  },
+)
+
+pub starred-hold : StarredHold
+starred-hold = computed .0
+
+pub errors-shown : ErrorsShown
+errors-shown = computed .1
+
+pub not-empty : NotEmpty
+not-empty = computed .2
+
+pub repeats-change : RepeatsChange
+repeats-change = computed .3

@@ -1,0 +1,21 @@
+-- The laws of the rules, and the proofs of what is claimed of them.
+pub mod Tests
+pub mod BytesLaws
+pub mod StoreLaws
+pub mod MapLaws
+pub mod Places
+pub mod Grants
+pub mod Lawful
+pub mod Locked
+pub mod Slots
+pub mod Counting
+pub mod Refused
+pub mod Segments
+pub mod Copies
+pub mod Exchange
+pub mod Demand3
+pub mod LogLaws
+pub mod LogDemand3
+pub mod FourCommands
+pub mod Examples
+pub mod Moves

@@ -1,0 +1,111 @@
+-- Laws of the header and of soundness, and the one law of the address rule.
+use Prim.Native.Nat.{ℕ, _+_, _≤_}
+use mathlib.Core.Path.{_≡_, ap}
+use mathlib.Core.Bool.{true}
+use mathlib.Core.List.{List, [], _∷_}
+use native.Mathlib.Omega.{arith}
+use lib.ListN.{length}
+use borrow.Author.Tests.{leb-true, eqb-true, eq-eqb, le-leb}
+use Rattle.rules.specs.Bytes.{zeros, part, put, number}
+use Rattle.rules.specs.Map.{most, unitAt, segmentsAt, segments, managements, segmentAt, publics, flag, pinAt, sound, soundness, placeOf}
+use Rattle.rules.proofs.Tests.{all-true, all-and, all-none}
+use Rattle.rules.proofs.BytesLaws.{Apart, part-put, byte-put-out, byte-put, length-put}
+
+-- all that the proofs know of where the segments begin: the units end before
+pub units-fit : (A : ℕ) → A ≤ most → unitAt A ≤ segmentsAt A
+unfolding most managements segmentsAt
+units-fit A h = omega arith
+
+-- ---- the facts of soundness
+
+pub record SoundTag (t : List ℕ) : Type 0 where
+  pub long : length t ≡ segmentAt (segments t) (segments t + publics t)
+  pub least : 1 ≤ segments t
+  pub most-segments : segments t ≤ most
+  pub most-publics : publics t ≤ most
+  pub flagged : flag t ≤ 1
+  pub padding : zeros (part 13 3 t) ≡ true
+  pub pin-zero : zeros (part (pinAt 0) 16 t) ≡ true
+
+pub sound-facts : (t : List ℕ) → sound t ≡ true → SoundTag t
+unfolding sound soundness
+sound-facts t e =
+    let s0 = all-true _ _ e in
+    let s1 = all-true _ _ (s0 .1) in
+    let s2 = all-true _ _ (s1 .1) in
+    let s3 = all-true _ _ (s2 .1) in
+    let s4 = all-true _ _ (s3 .1) in
+    let s5 = all-true _ _ (s4 .1) in
+    let s6 = all-true _ _ (s5 .1) in
+    record {
+      long = eqb-true _ _ (s0 .0);
+      least = leb-true _ _ (s1 .0);
+      most-segments = leb-true _ _ (s2 .0);
+      most-publics = leb-true _ _ (s3 .0);
+      flagged = leb-true _ _ (s4 .0);
+      padding = s5 .0;
+      pin-zero = s6 .0;
+    }
+
+pub sound-from : (t : List ℕ) → SoundTag t → sound t ≡ true
+unfolding sound soundness
+sound-from t f =
+    all-and _ _ (eq-eqb _ _ (f .long)) (all-and _ _ (le-leb _ _ (f .least))
+    (all-and _ _ (le-leb _ _ (f .most-segments)) (all-and _ _ (le-leb _ _ (f .most-publics))
+    (all-and _ _ (le-leb _ _ (f .flagged)) (all-and _ _ (f .padding) (all-and _ _ (f .pin-zero) all-none))))))
+
+-- the units end before the segments, which end before the tag does
+pub sound-long : (t : List ℕ) → sound t ≡ true
+    → (unitAt (segments t) ≤ segmentsAt (segments t)) × (length t ≡ segmentAt (segments t) (segments t + publics t))
+sound-long t w = (units-fit (segments t) (sound-facts t w .most-segments), sound-facts t w .long)
+
+-- ---- the header after a store
+
+pub segments-put : (a : ℕ) (bs t : List ℕ) → Apart a (length bs) 0 4 → segments (put a bs t) ≡ segments t
+unfolding segments
+segments-put a bs t h = ap number (part-put 0 2 a bs t (λ i p q u v. h i p q u (omega arith)))
+
+pub publics-put : (a : ℕ) (bs t : List ℕ) → Apart a (length bs) 0 4 → publics (put a bs t) ≡ publics t
+unfolding publics
+publics-put a bs t h = ap number (part-put 2 2 a bs t (λ i p q u v. h i p q (omega arith) v))
+
+pub flag-put : (a : ℕ) (bs t : List ℕ) → Apart a (length bs) 12 4 → flag (put a bs t) ≡ flag t
+unfolding flag
+flag-put a bs t h = byte-put-out a bs t 12 (λ p q. h 12 p q (omega arith) (omega arith))
+
+pub placeOf-put : (x : ℕ) (ys t : List ℕ) (a n : ℕ) → Apart x (length ys) 0 4 → placeOf (put x ys t) a n ≡ placeOf t a n
+unfolding placeOf
+placeOf-put x ys t a n h = rw (segments-put x ys t h, publics-put x ys t h)
+
+-- ---- soundness after a store: elsewhere, and at the flag
+
+pub sound-put : (a : ℕ) (bs t : List ℕ) → Apart a (length bs) 0 4 → Apart a (length bs) 12 4
+    → Apart a (length bs) (pinAt 0) 16 → sound (put a bs t) ≡ sound t
+unfolding sound soundness
+sound-put a bs t h0 h1 h2 =
+    rw (
+      length-put a bs t,
+      segments-put a bs t h0,
+      publics-put a bs t h0,
+      flag-put a bs t h1,
+      part-put 13 3 a bs t (λ i p q u v. h1 i p q (omega arith) v),
+      part-put (pinAt 0) 16 a bs t h2,
+    )
+
+pub sound-flag : (v : ℕ) (t : List ℕ) → v ≤ 1 → sound t ≡ true → sound (put 12 (v ∷ []) t) ≡ true
+unfolding flag
+sound-flag v t l e =
+    let f = sound-facts t e in
+    let g = sound-long t e in
+    let a = segments-put 12 (v ∷ []) t (omega arith) in
+    let p = publics-put 12 (v ∷ []) t (omega arith) in
+    sound-from (put 12 (v ∷ []) t)
+    (record {
+      long = rw (a, p, length-put 12 (v ∷ []) t) (f .long);
+      least = rw a (f .least);
+      most-segments = rw a (f .most-segments);
+      most-publics = rw p (f .most-publics);
+      flagged = rw (byte-put 12 v t (omega arith)) l;
+      padding = rw (part-put 13 3 12 (v ∷ []) t (omega arith)) (f .padding);
+      pin-zero = rw (part-put (pinAt 0) 16 12 (v ∷ []) t (omega arith)) (f .pin-zero);
+    })

@@ -1,0 +1,189 @@
+-- A refused command changes nothing, except 11, which sets the flag; and the number is the lowest that applies.
+use Prim.Native.Nat.{ℕ, _≤_}
+use mathlib.Core.Path.{_≡_, refl, sym, ap, subst, _∙_}
+use mathlib.Core.Logic.{_≢_, inl, inr}
+use mathlib.Core.Bool.{Bool, true, false, _&&_, not, cond}
+use mathlib.Core.List.{List, [], _∷_}
+use mathlib.Core.Option.{Option, none, some}
+use native.Mathlib.Omega.{arith}
+use lib.ListN.{length}
+use lib.Dec.{eqb, leb}
+use borrow.Author.Tests.{leb-true, eq-eqb, ne-eqb}
+use Rattle.rules.specs.declared.Register.{Register}
+use Rattle.rules.specs.declared.Register.the-variants.{Read, Write, Edit, Name, Id, Commit, Pa}
+use Rattle.rules.specs.declared.Place.{Place}
+use Rattle.rules.specs.declared.Place.the-variants.{Header, Hidden, RegisterOf, Pins, Readers, UnitOf, Spare, Segment, Public}
+use Rattle.rules.specs.Bytes.{put, byte}
+use Rattle.rules.specs.Map.{placeOf, sound, flag}
+use Rattle.rules.specs.State.{Cipher, State}
+use Rattle.rules.specs.Refusals.{Checks, granted, _when_else_, lowest, registerChecks, responseChecks, nameChecks, commitChecks, plainChecks, writeChecks, headerWriteChecks, editChecks, segmentWriteChecks, readChecks, unitReadChecks, segmentReadChecks, advanceChecks}
+use Rattle.rules.specs.Effects.{refusalStores, apply, setFlag}
+use Rattle.rules.specs.Command.{write, inPlace, read, checks, Command, advance, powerUp, refusal, refused, after, afterBy, filled, reply, replyBy}
+use Rattle.rules.specs.Claims.{Applies, LowestGiven, RefusedChangesNothing}
+use Rattle.rules.proofs.Tests.{and-true, true-false, some-none}
+use Rattle.rules.proofs.BytesLaws.{byte-put, byte-put-out, length-put}
+use Rattle.rules.proofs.MapLaws.{sound-long}
+use Rattle.rules.proofs.Grants.{reply-is}
+
+-- ---- the lists of checks ascend, so the first number that applies is the lowest
+
+abbrev ascends : ℕ → Checks → Bool
+ascends k granted = true
+ascends k (n when b else cs) = leb k n && ascends n cs
+
+bounded : (k : ℕ) (cs : Checks) (m : ℕ) → ascends k cs ≡ true → Applies m cs → k ≤ m
+bounded k granted m h a = absurd a
+bounded k (n when b else cs) m h (inl a) =
+    let x = leb-true k n (and-true (leb k n) (ascends n cs) h .0) in omega (arith, a .0, x)
+bounded k (n when b else cs) m h (inr a) =
+    let x = and-true (leb k n) (ascends n cs) h in
+    let y = leb-true k n (x .0) in
+    let z = bounded n cs m (x .1) a in
+    omega arith
+
+abbrev Least : ℕ → Checks → Type 0
+Least n cs = Applies n cs × ((m : ℕ) → Applies m cs → n ≤ m)
+
+least-now : (j : ℕ) (cs : Checks) → ascends j cs ≡ true → Least j (j when true else cs)
+least-now j cs h = (inl (refl, refl), least)
+  where
+    least : (m : ℕ) → Applies m (j when true else cs) → j ≤ m
+    least m (inl a) = omega (arith, a .0)
+    least m (inr a) = bounded j cs m h a
+
+least-later : (j : ℕ) (cs : Checks) (n : ℕ) → Least n cs → Least n (j when false else cs)
+least-later j cs n x = (inr (x .0), least)
+  where
+    least : (m : ℕ) → Applies m (j when false else cs) → n ≤ m
+    least m (inl a) = true-false (sym (a .1))
+    least m (inr a) = x .1 m a
+
+least-given : (k : ℕ) (cs : Checks) (n : ℕ) → ascends k cs ≡ true → lowest cs ≡ some n → Least n cs
+unfolding lowest
+least-given k granted n h e = some-none (sym e)
+least-given k (j when true else cs) n h e =
+    let q : j ≡ n = cc in subst (λ m. Least m (j when true else cs)) q (least-now j cs (and-true (leb k j) (ascends j cs) h .1))
+least-given k (j when false else cs) n h e =
+    least-later j cs n (least-given j cs n (and-true (leb k j) (ascends j cs) h .1) e)
+
+none-left : (cs : Checks) (m : ℕ) → lowest cs ≡ none → Applies m cs → ⊥
+unfolding lowest
+none-left granted m e a = a
+none-left (j when true else cs) m e a = some-none e
+none-left (j when false else cs) m e (inl a) = true-false (sym (a .1))
+none-left (j when false else cs) m e (inr a) = none-left cs m e a
+
+register-ascends : (E : Cipher) (s : State) (r : Register) (bs : List ℕ) → ascends 2 (registerChecks E s r bs) ≡ true
+unfolding registerChecks responseChecks nameChecks commitChecks plainChecks
+register-ascends E s Read bs = refl
+register-ascends E s Write bs = refl
+register-ascends E s Edit bs = refl
+register-ascends E s Name bs = refl
+register-ascends E s Id bs = refl
+register-ascends E s Commit bs = refl
+register-ascends E s Pa bs = refl
+
+write-ascends : (E : Cipher) (s : State) (a : ℕ) (bs : List ℕ) (q : Option Place) → ascends 2 (inPlace q (λ p. writeChecks E s p a bs)) ≡ true
+unfolding inPlace writeChecks headerWriteChecks editChecks segmentWriteChecks
+write-ascends E s a bs none = refl
+write-ascends E s a bs (some Header) = refl
+write-ascends E s a bs (some Hidden) = refl
+write-ascends E s a bs (some (RegisterOf r)) = register-ascends E s r bs
+write-ascends E s a bs (some Pins) = refl
+write-ascends E s a bs (some Readers) = refl
+write-ascends E s a bs (some (UnitOf k)) = refl
+write-ascends E s a bs (some Spare) = refl
+write-ascends E s a bs (some (Segment k)) = refl
+write-ascends E s a bs (some (Public k)) = refl
+
+read-ascends : (s : State) (a n : ℕ) (q : Option Place) → ascends 2 (inPlace q (λ p. readChecks s p a n)) ≡ true
+unfolding inPlace readChecks unitReadChecks segmentReadChecks
+read-ascends s a n none = refl
+read-ascends s a n (some Header) = refl
+read-ascends s a n (some Hidden) = refl
+read-ascends s a n (some (RegisterOf r)) = refl
+read-ascends s a n (some Pins) = refl
+read-ascends s a n (some Readers) = refl
+read-ascends s a n (some (UnitOf k)) = refl
+read-ascends s a n (some Spare) = refl
+read-ascends s a n (some (Segment k)) = refl
+read-ascends s a n (some (Public k)) = refl
+
+checks-ascend : (E : Cipher) (s : State) (c : Command) → ascends 1 (checks E s c) ≡ true
+unfolding checks advanceChecks
+checks-ascend E s (read a n room) = read-ascends s a n (placeOf (s .tag) a n)
+checks-ascend E s (write a bs) = write-ascends E s a bs (placeOf (s .tag) a (length bs))
+checks-ascend E s (advance k) = refl
+checks-ascend E s powerUp = refl
+
+pub lowest-given : (E : Cipher) (s : State) (c : Command) → LowestGiven E s c
+unfolding refusal
+lowest-given E s c =
+    record {
+      lowest-given = λ n e. least-given 1 (checks E s c) n (checks-ascend E s c) e;
+      grant-owed = λ e m a. none-left (checks E s c) m e a;
+    }
+
+-- ---- the state after a refusal
+
+-- a refusal other than 11 leaves the state as it was
+pub refused-stays : (E : Cipher) (s : State) (c : Command) (n : ℕ) → refusal E s c ≡ some n → n ≢ 11 → after E s c ≡ s
+unfolding after afterBy refusalStores apply
+refused-stays E s c n e h = rw (e, ne-eqb n 11 h)
+
+-- 11 is given only on a sound tag, since 1 is lower
+unsound-applies : (E : Cipher) (s : State) (c : Command) (n : ℕ) → sound (s .tag) ≡ false → refusal E s c ≡ some n
+    → Applies 1 (checks E s c)
+unfolding refusal checks lowest
+unsound-applies E s (read a m room) n h e = inl (refl, ap not h)
+unsound-applies E s (write a bs) n h e = inl (refl, ap not h)
+unsound-applies E s (advance k) n h e = inl (refl, ap not h)
+unsound-applies E s powerUp n h e = some-none (sym e)
+
+pub eleven-sound : (E : Cipher) (s : State) (c : Command) → refusal E s c ≡ some 11 → sound (s .tag) ≡ true
+eleven-sound E s c e = by (sound (s .tag)) refl
+  where
+    by : (b : Bool) → sound (s .tag) ≡ b → sound (s .tag) ≡ true
+    by true h = h
+    by false h = let x = lowest-given E s c .lowest-given 11 e .1 1 (unsound-applies E s c 11 h e) in absurd (omega arith)
+
+refused-tag : (E : Cipher) (s : State) (c : Command) (n : ℕ) → refusal E s c ≡ some n
+    → after E s c .tag ≡ cond (eqb n 11) (put 12 (1 ∷ []) (s .tag)) (s .tag)
+unfolding after afterBy refusalStores
+refused-tag E s c n e = rw e (by (eqb n 11))
+  where
+    by : (b : Bool) → apply (cond b (setFlag 1 ∷ []) []) (s .tag) ≡ cond b (put 12 (1 ∷ []) (s .tag)) (s .tag)
+    by true = unfold apply in refl
+    by false = unfold apply in refl
+
+pub refused-changes-nothing : (E : Cipher) (s : State) (c : Command) (n : ℕ) → refusal E s c ≡ some n
+    → RefusedChangesNothing E s c n
+refused-changes-nothing E s c n e =
+    let t = refused-tag E s c n e in
+    record {
+      number-alone = answer;
+      same-output = λ out. ap (λ r. filled r out) answer ∙ (unfold filled in refl);
+      same-session = (unfold after afterBy in rw e);
+      same-tag = λ h. t ∙ ap (λ b. cond b (put 12 (1 ∷ []) (s .tag)) (s .tag)) (ne-eqb n 11 h);
+      flag-set = λ h. flagged h t;
+      other-bytes = λ i h. ap (byte i) t ∙ others i h (eqb n 11);
+      same-length = ap length t ∙ as-long (eqb n 11);
+    }
+  where
+    answer : reply E s c ≡ refused n
+    answer = reply-is E s c (some n) e ∙ (unfold replyBy in refl)
+
+    flagged : n ≡ 11 → after E s c .tag ≡ cond (eqb n 11) (put 12 (1 ∷ []) (s .tag)) (s .tag) → flag (after E s c .tag) ≡ 1
+    flagged h t =
+        let w = eleven-sound E s c (e ∙ ap some h) in
+        let g = sound-long (s .tag) w in
+        ap flag (t ∙ ap (λ b. cond b (put 12 (1 ∷ []) (s .tag)) (s .tag)) (eq-eqb n 11 h))
+        ∙ (unfold flag in byte-put 12 1 (s .tag) (omega arith))
+
+    others : (i : ℕ) → i ≢ 12 → (b : Bool) → byte i (cond b (put 12 (1 ∷ []) (s .tag)) (s .tag)) ≡ byte i (s .tag)
+    others i h true = byte-put-out 12 (1 ∷ []) (s .tag) i (λ p q. h (omega arith))
+    others i h false = refl
+
+    as-long : (b : Bool) → length (cond b (put 12 (1 ∷ []) (s .tag)) (s .tag)) ≡ length (s .tag)
+    as-long true = length-put 12 (1 ∷ []) (s .tag)
+    as-long false = refl

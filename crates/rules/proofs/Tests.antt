@@ -1,0 +1,67 @@
+-- Small facts on tests, and on lists of checks: what it means that none of them applies.
+use Prim.Native.Nat.{ℕ}
+use mathlib.Core.Path.{_≡_, refl, sym}
+use mathlib.Core.Bool.{Bool, true, false, _&&_, _||_}
+use mathlib.Core.List.{List, [], _∷_}
+use mathlib.Core.Option.{none, some}
+use native.Mathlib.Omega.{arith}
+use Rattle.rules.specs.Bytes.{all}
+use Rattle.rules.specs.Refusals.{Checks, lowest, _when_else_, granted}
+
+pub true-false : {A : Type 0} → true ≡ false → A
+true-false e = let z : _≡_ {A = ℕ} 0 1 = cc in absurd (omega arith)
+
+pub some-none : {A B : Type 0} {a : A} → some a ≡ none → B
+some-none e = let z : _≡_ {A = ℕ} 0 1 = cc in absurd (omega arith)
+
+pub same-some : {A : Type 0} {a b : A} → some a ≡ some b → a ≡ b
+same-some e = cc
+
+pub and-true : (a b : Bool) → (a && b) ≡ true → (a ≡ true) × (b ≡ true)
+and-true true true e = (refl, refl)
+and-true true false e = true-false (sym e)
+and-true false b e = true-false (sym e)
+
+pub or-false : (a b : Bool) → (a || b) ≡ false → (a ≡ false) × (b ≡ false)
+or-false false false e = (refl, refl)
+or-false false true e = true-false e
+or-false true b e = true-false e
+
+-- ---- a list of tests that all hold
+
+pub all-true : (b : Bool) (bs : List Bool) → all (b ∷ bs) ≡ true → (b ≡ true) × (all bs ≡ true)
+unfolding all
+all-true b bs e = and-true b (all bs) e
+
+pub all-and : (b : Bool) (bs : List Bool) → b ≡ true → all bs ≡ true → all (b ∷ bs) ≡ true
+unfolding all
+all-and b bs e f = rw (e, f)
+
+pub all-none : all [] ≡ true
+unfolding all
+all-none = refl
+
+-- ---- a list of checks
+
+-- no number is given: the first does not apply, and no later one
+pub passes : (n : ℕ) (b : Bool) (cs : Checks) → lowest (n when b else cs) ≡ none → (b ≡ false) × (lowest cs ≡ none)
+unfolding lowest
+passes n true cs e = some-none e
+passes n false cs e = (refl, e)
+
+-- and back
+pub clears : (n : ℕ) (b : Bool) (cs : Checks) → b ≡ false → lowest cs ≡ none → lowest (n when b else cs) ≡ none
+unfolding lowest
+clears n true cs e h = true-false e
+clears n false cs e h = h
+
+pub none-applies : lowest granted ≡ none
+unfolding lowest
+none-applies = refl
+
+-- two lists that begin with the same check
+pub lowest-under : (n : ℕ) (b : Bool) (cs ds : Checks) → (b ≡ false → lowest cs ≡ lowest ds)
+    → lowest (n when b else cs) ≡ lowest (n when b else ds)
+unfolding lowest
+lowest-under n true cs ds h = refl
+lowest-under n false cs ds h = h refl

@@ -1,0 +1,128 @@
+-- What else is claimed of the rules, for every cipher `E` and state `s`. Assumes nothing.
+use Prim.Native.Nat.{ℕ, _+_, _-_, _*_, _/_, _%_, _≤_, _<_}
+use mathlib.Core.Path.{_≡_}
+use mathlib.Core.Logic.{_≢_, _⊎_}
+use mathlib.Core.Bool.{Bool, true, false}
+use mathlib.Core.List.{List, [], _∷_}
+use mathlib.Core.Option.{none, some}
+use lib.ListN.{length, drop, replicate}
+use Rattle.rules.specs.declared.Model.{Model}
+use Rattle.rules.specs.declared.Model.the-variants.{Default, WriteOnce, Counter, Receiver}
+use Rattle.rules.specs.declared.Place.{Place}
+use Rattle.rules.specs.declared.Stop.the-variants.{End, BadCommand, OutputFull}
+use Rattle.rules.specs.Bytes.{byte, put, part}
+use Rattle.rules.specs.Map.{Row, row, rows, segments, publics, placeOf, sound, flag}
+use Rattle.rules.specs.Units.{unitBytes, unitOf, bit}
+use Rattle.rules.specs.State.{Cipher, State}
+use Rattle.rules.specs.Refusals.{Checks, granted, _when_else_}
+use Rattle.rules.specs.Effects.{readOnly, advanced}
+use Rattle.rules.specs.Command.{Command, refusal, checks, reply, refused, filled, after, powerUp}
+use Rattle.rules.specs.Log.{runLog, stopped, first, encoded, roomFor, onward, commands}
+
+-- ---- "A command must lie wholly inside one place of the map."
+
+-- the n bytes at a lie wholly in the place p of the table
+abbrev pub Within : Place → ℕ → ℕ → List Row → Type 0
+Within p a n [] = ⊥
+Within p a n (row start size count place ∷ rs) =
+    ((i : ℕ) × (i < count) × (p ≡ place i) × (start + size * i ≤ a) × (a + n ≤ start + size * i + size)) ⊎ Within p a n rs
+
+-- the place p of the tag t holds the n bytes at a
+abbrev pub Holds : List ℕ → Place → ℕ → ℕ → Type 0
+Holds t p a n = Within p a n (rows (segments t) (publics t))
+
+-- a range that lies wholly inside one place is found in that place, and no other range is found; no two places share a byte; and
+-- each byte of the tag is in a place
+pub record TheMap (t : List ℕ) : Type 0 where
+  pub found : (p : Place) (a n : ℕ) → 1 ≤ n → Holds t p a n → placeOf t a n ≡ some p
+  pub no-other : (p : Place) (a n : ℕ) → placeOf t a n ≡ some p → Holds t p a n
+  pub one-place : (p q : Place) (a n : ℕ) → 1 ≤ n → Holds t p a n → Holds t q a n → p ≡ q
+  pub every-byte : (a : ℕ) → a < length t → (p : Place) × (placeOf t a 1 ≡ some p)
+
+abbrev pub MapExact : Type 0
+MapExact = (t : List ℕ) → sound t ≡ true → TheMap t
+
+-- ---- "The lowest refusal number that applies is given."
+
+-- the number m stands on the list beside a test that holds
+abbrev pub Applies : ℕ → Checks → Type 0
+Applies m granted = ⊥
+Applies m (n when b else cs) = ((m ≡ n) × (b ≡ true)) ⊎ Applies m cs
+
+pub record LowestGiven (E : Cipher) (s : State) (c : Command) : Type 0 where
+  pub lowest-given : (n : ℕ) → refusal E s c ≡ some n
+      → Applies n (checks E s c) × ((m : ℕ) → Applies m (checks E s c) → n ≤ m)
+  pub grant-owed : refusal E s c ≡ none → (m : ℕ) → Applies m (checks E s c) → ⊥
+
+-- ---- "A refused command .. returns its number alone and changes nothing, except 11, which sets the flag."
+
+pub record RefusedChangesNothing (E : Cipher) (s : State) (c : Command) (n : ℕ) : Type 0 where
+  pub number-alone : reply E s c ≡ refused n
+  pub same-output : (out : List ℕ) → filled (reply E s c) out ≡ out
+  pub same-session : after E s c .session ≡ s .session
+  pub same-tag : n ≢ 11 → after E s c .tag ≡ s .tag
+  pub flag-set : n ≡ 11 → flag (after E s c .tag) ≡ 1
+  pub other-bytes : (i : ℕ) → i ≢ 12 → byte i (after E s c .tag) ≡ byte i (s .tag)
+  pub same-length : length (after E s c .tag) ≡ length (s .tag)
+
+-- ---- a sound tag stays sound, and what no command may write stays as it was: hidden part and registers, PIN 0, reader IDs
+
+pub record SoundStays (E : Cipher) (s : State) (c : Command) : Type 0 where
+  pub stays-sound : sound (after E s c .tag) ≡ true
+  pub same-segments : segments (after E s c .tag) ≡ segments (s .tag)
+  pub same-publics : publics (after E s c .tag) ≡ publics (s .tag)
+  pub low-stays : part 16 4096 (after E s c .tag) ≡ part 16 4096 (s .tag)
+  pub readers-stay : part 8192 4096 (after E s c .tag) ≡ part 8192 4096 (s .tag)
+
+-- ---- "A unit with nE set is locked: no edit is granted. The models' own moves of RD, WR and stage still happen."
+
+-- what a model's own move writes over the first bytes of its unit u
+unfoldable pub ownMove : Model → List ℕ → List ℕ
+ownMove Default u = []
+ownMove WriteOnce u = readOnly (byte 0 u) ∷ []
+ownMove Counter u = []
+ownMove (Receiver g) u = advanced (Receiver g) u
+
+pub record LockedUnit (E : Cipher) (s : State) (k : ℕ) (c : Command) : Type 0 where
+  pub moves : (unitBytes (after E s c .tag) k ≡ unitBytes (s .tag) k)
+      ⊎ (unitBytes (after E s c .tag) k
+      ≡ put 0 (ownMove (unitOf (unitBytes (s .tag) k) .model) (unitBytes (s .tag) k)) (unitBytes (s .tag) k))
+
+-- the bits of a control byte, RD first
+abbrev pub bits : ℕ → List Bool
+bits b = bit 7 b ∷ bit 6 b ∷ bit 5 b ∷ bit 4 b ∷ bit 3 b ∷ bit 2 b ∷ bit 1 b ∷ bit 0 b ∷ []
+
+-- "clears WR and sets RD", where WR is set and RD clear, and leaves the other bits; a stage goes up by one, and its model stays
+pub record MovesExact (b : ℕ) : Type 0 where
+  pub bits-moved : bit 7 b ≡ false → bit 5 b ≡ true
+      → bits (readOnly b) ≡ true ∷ bit 6 b ∷ false ∷ bit 4 b ∷ bit 3 b ∷ bit 2 b ∷ bit 1 b ∷ bit 0 b ∷ []
+  pub stage-up : (b + 16) / 16 ≡ b / 16 + 1
+  pub model-stays : (b + 16) % 16 ≡ b % 16
+
+-- ---- "Power-up makes it all zeros."
+
+pub record PowerUpClears (E : Cipher) (s : State) : Type 0 where
+  pub same-tag : after E s powerUp .tag ≡ s .tag
+  pub read-zero : after E s powerUp .session .read ≡ 0
+  pub write-zero : after E s powerUp .session .write ≡ 0
+  pub edit-zero : after E s powerUp .session .edit ≡ 0
+  pub name-zeros : after E s powerUp .session .name ≡ replicate 16 0
+  pub id-zeros : after E s powerUp .session .id ≡ replicate 16 0
+  pub pa-zeros : after E s powerUp .session .pa ≡ replicate 16 0
+
+-- ---- a log is its commands, one after another
+
+pub record LogIsItsCommands (E : Cipher) (s : State) (room : ℕ) : Type 0 where
+  pub at-end : runLog E s [] room ≡ stopped End [] s
+  pub at-15 : (b : ℕ) (body : List ℕ) → first b body ≡ none → 2 ≤ room
+      → runLog E s (b ∷ body) room ≡ stopped BadCommand (encoded (refused 15)) s
+  pub no-room-15 : (b : ℕ) (body : List ℕ) → first b body ≡ none → room < 2
+      → runLog E s (b ∷ body) room ≡ stopped OutputFull [] s
+  pub at-command : (b : ℕ) (body : List ℕ) (c : Command) (n : ℕ) → first b body ≡ some (c, n) → roomFor c ≤ room
+      → runLog E s (b ∷ body) room
+      ≡ onward (1 + n) (encoded (reply E s c))
+      (runLog E (after E s c) (drop n body) (room - length (encoded (reply E s c))))
+  pub no-room : (b : ℕ) (body : List ℕ) (c : Command) (n : ℕ) → first b body ≡ some (c, n) → room < roomFor c
+      → runLog E s (b ∷ body) room ≡ stopped OutputFull [] s
+  pub its-commands : (b : ℕ) (body : List ℕ) (c : Command) (n : ℕ) → first b body ≡ some (c, n)
+      → commands (b ∷ body) ≡ c ∷ commands (drop n body)

@@ -1,0 +1,125 @@
+-- Document 01, "What a command does": what a granted command changes, and 11. Assumes nothing.
+-- The tag changes by stores, made one after another; the session by the functions of State.
+use Prim.Native.Nat.{ℕ, _+_, _-_}
+use mathlib.Core.Bool.{cond}
+use mathlib.Core.List.{List, [], _∷_}
+use lib.ListN.{length}
+use lib.Dec.{eqb}
+use Rattle.rules.specs.declared.Stage.{Stage}
+use Rattle.rules.specs.declared.Stage.the-variants.{Zero, One, Two}
+use Rattle.rules.specs.declared.Model.{Model}
+use Rattle.rules.specs.declared.Model.the-variants.{Default, WriteOnce, Counter, Receiver}
+use Rattle.rules.specs.declared.Register.{Register}
+use Rattle.rules.specs.declared.Register.the-variants.{Read, Write, Edit, Name, Id, Commit, Pa}
+use Rattle.rules.specs.declared.Place.{Place}
+use Rattle.rules.specs.declared.Place.the-variants.{Header, Hidden, RegisterOf, Pins, Readers, UnitOf, Spare, Segment, Public}
+use Rattle.rules.specs.declared.Session.{Session}
+use Rattle.rules.specs.Bytes.{byte, part, put, xor}
+use Rattle.rules.specs.Map.{pinAt, unitAt}
+use Rattle.rules.specs.Units.{unitBytes, unitOf}
+use Rattle.rules.specs.State.{State, withRead, withWrite, withEdit, withName, withId, withPa, pinIndex, ownerIndex, pin, owner, Cipher, response}
+
+infix 68 _↤_
+pub data Store : Type 0 where
+  _↤_ : (at : ℕ) → List ℕ → Store
+
+unfoldable pub apply : List Store → List ℕ → List ℕ
+apply [] t = t
+apply ((at ↤ bs) ∷ ss) t = apply ss (put at bs t)
+
+abbrev pub setFlag : ℕ → Store
+setFlag b = 12 ↤ (b ∷ [])
+
+-- ---- "Segment write: .. Default stores. Model 1 stores, then clears WR and sets RD. Model 2 takes one aligned slot .. Model 3 stores
+-- at stage 0 and XORs into what is there at stage 1."
+
+unfoldable pub stored : Model → List ℕ → List ℕ → List ℕ
+stored Default old bs = bs
+stored WriteOnce old bs = bs
+stored Counter old bs = bs
+stored (Receiver Zero) old bs = bs
+stored (Receiver One) old bs = xor bs old
+stored (Receiver Two) old bs = bs
+
+-- WR cleared and RD set, in a control byte that has WR set and RD clear
+unfoldable pub readOnly : ℕ → ℕ
+readOnly b = b - 32 + 128
+
+-- what a write then stores at its unit `u`, at address `at`
+unfoldable pub writeMove : Model → ℕ → List ℕ → List Store
+writeMove Default at u = []
+writeMove WriteOnce at u = (at ↤ (readOnly (byte 0 u) ∷ [])) ∷ []
+writeMove Counter at u = []
+writeMove (Receiver g) at u = []
+
+-- ---- "Advance: .. stage 0 to 1, 1 to 2 (RD set, WR cleared)": the two first bytes of the unit after it
+
+unfoldable pub advanced : Model → List ℕ → List ℕ
+advanced Default u = byte 0 u ∷ byte 1 u ∷ []
+advanced WriteOnce u = byte 0 u ∷ byte 1 u ∷ []
+advanced Counter u = byte 0 u ∷ byte 1 u ∷ []
+advanced (Receiver Zero) u = byte 0 u ∷ (byte 1 u + 16) ∷ []
+advanced (Receiver One) u = readOnly (byte 0 u) ∷ (byte 1 u + 16) ∷ []
+advanced (Receiver Two) u = byte 0 u ∷ byte 1 u ∷ []
+
+unfoldable pub advanceStores : List ℕ → ℕ → List Store
+advanceStores t k = (unitAt k ↤ advanced (unitOf (unitBytes t k) .model) (unitBytes t k)) ∷ []
+
+-- ---- registers: "READ, WRITE, EDIT: flag .. is set to 1 .. NAME: same flag rule .. COMMIT: same flag rule; .. the written bytes XOR
+-- E_K(counter) become the PIN at the index"
+
+unfoldable pub registerStores : Cipher → State → Register → List ℕ → List Store
+registerStores E s Read bs = setFlag 1 ∷ []
+registerStores E s Write bs = setFlag 1 ∷ []
+registerStores E s Edit bs = setFlag 1 ∷ []
+registerStores E s Name bs = setFlag 1 ∷ []
+registerStores E s Id bs = []
+registerStores E s Commit bs =
+    setFlag 1
+    ∷ (pinAt (pinIndex (s .session)) ↤ xor bs (response E (owner (s .tag) (ownerIndex (s .session))) (s .tag)))
+    ∷ []
+registerStores E s Pa bs = []
+
+-- "that index becomes the validated index of this register's kind, the other two staying"; "the bytes XOR E_PIN(counter) become the
+-- session name"; "ID and PA registers: store 16 bytes in the session"
+unfoldable pub registerSession : Cipher → State → Register → List ℕ → Session
+registerSession E s Read bs = withRead (pinIndex (s .session)) (s .session)
+registerSession E s Write bs = withWrite (pinIndex (s .session)) (s .session)
+registerSession E s Edit bs = withEdit (pinIndex (s .session)) (s .session)
+registerSession E s Name bs =
+    withName (xor bs (response E (pin (s .tag) (pinIndex (s .session))) (s .tag))) (s .session)
+registerSession E s Id bs = withId bs (s .session)
+registerSession E s Commit bs = s .session
+registerSession E s Pa bs = withPa bs (s .session)
+
+-- ---- by place: a granted write of `bs` at `a`
+
+-- "Header: .. it clears the flag"
+unfoldable pub writeStores : Cipher → State → Place → ℕ → List ℕ → List Store
+writeStores E s Header a bs = (a ↤ bs) ∷ setFlag 0 ∷ []
+writeStores E s Hidden a bs = []
+writeStores E s (RegisterOf r) a bs = registerStores E s r bs
+writeStores E s Pins a bs = []
+writeStores E s Readers a bs = []
+writeStores E s (UnitOf k) a bs = (a ↤ bs) ∷ []
+writeStores E s Spare a bs = []
+writeStores E s (Segment k) a bs =
+    (a ↤ stored (unitOf (unitBytes (s .tag) k) .model) (part a (length bs) (s .tag)) bs)
+    ∷ writeMove (unitOf (unitBytes (s .tag) k) .model) (unitAt k) (unitBytes (s .tag) k)
+writeStores E s (Public k) a bs = (a ↤ bs) ∷ []
+
+unfoldable pub writeSession : Cipher → State → Place → List ℕ → Session
+writeSession E s Header bs = s .session
+writeSession E s Hidden bs = s .session
+writeSession E s (RegisterOf r) bs = registerSession E s r bs
+writeSession E s Pins bs = s .session
+writeSession E s Readers bs = s .session
+writeSession E s (UnitOf k) bs = s .session
+writeSession E s Spare bs = s .session
+writeSession E s (Segment k) bs = s .session
+writeSession E s (Public k) bs = s .session
+
+-- ---- "A refused command .. changes nothing, except 11, which sets the flag."
+
+unfoldable pub refusalStores : ℕ → List Store
+refusalStores n = cond (eqb n 11) (setFlag 1 ∷ []) []

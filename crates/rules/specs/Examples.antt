@@ -1,0 +1,131 @@
+-- Document 01, "Drawer examples": those marked * as one list; and "Errors that look right". Assumes nothing.
+use Prim.Native.Nat.{ℕ}
+use mathlib.Core.Path.{_≡_}
+use mathlib.Core.Logic.{_≢_}
+use mathlib.Core.Bool.{true}
+use mathlib.Core.List.{List, [], _∷_, _++_, map}
+use lib.ListN.{replicate}
+use Rattle.rules.specs.Bytes.{put}
+use Rattle.rules.specs.Map.{registerAt, sound}
+use Rattle.rules.specs.State.{Cipher, State, withPa, poweredUp}
+use Rattle.rules.specs.Command.{Command, Reply, write, done, refused, read, gives, advance, powerUp}
+use Rattle.rules.specs.Run.{replies, final}
+use Rattle.rules.specs.Log.{runLog}
+use Rattle.rules.specs.Demand3.{LockedCounter}
+
+-- "One-segment tag, .. else zeros apart from A = 1", with the unit's first two bytes
+unfoldable pub tagWith : (control model : ℕ) → List ℕ
+tagWith control model = put 12288 (control ∷ model ∷ []) (put 0 (0 ∷ 1 ∷ []) (replicate 20480 0))
+
+unfoldable pub counterTag : List ℕ
+counterTag = tagWith 0xA5 0x02
+
+-- eight bytes, the last two given
+unfoldable pub eight : ℕ → ℕ → List ℕ
+eight x y = 0 ∷ 0 ∷ 0 ∷ 0 ∷ 0 ∷ 0 ∷ x ∷ y ∷ []
+
+-- a cipher that leaves its block as it is
+abbrev pub noCipher : Cipher
+noCipher = λ key block. block
+
+-- after power-up, with this PA
+unfoldable pub begin : List ℕ → List ℕ → State
+begin pa t = record { tag = t; session = withPa pa poweredUp }
+
+-- a log or a list of commands on a tag, and what is owed; the PA names a PIN index in two bytes
+pub data Example : Type 0 where
+  byLog : (tag log output : List ℕ) → Example
+  byList : (tag : List ℕ) → List Command → List Reply → Example
+  byPa : (high low : ℕ) (tag : List ℕ) → List Command → List Reply → Example
+
+pub data Got : Type 0 where
+  bytes : List ℕ → Got
+  list : List Reply → Got
+
+unfoldable pub got : Example → Got
+got (byLog t log out) = bytes (runLog noCipher (begin (replicate 16 0) t) log 4096 .output)
+got (byList t cs rs) = list (replies noCipher (begin (replicate 16 0) t) cs)
+got (byPa x y t cs rs) = list (replies noCipher (begin (x ∷ y ∷ replicate 14 0) t) cs)
+
+unfoldable pub owed : Example → Got
+owed (byLog t log out) = bytes out
+owed (byList t cs rs) = list rs
+owed (byPa x y t cs rs) = list rs
+
+unfoldable pub starred : List Example
+starred =
+    byLog counterTag
+    (0x22 ∷ 0 ∷ 0 ∷ 0x40 ∷ 0 ∷ eight 0 1 ++ 0x22 ∷ 0 ∷ 0 ∷ 0x40 ∷ 0 ∷ eight 0 1 ++ 0x12 ∷ 0 ∷ 0 ∷ 0x40 ∷ 0 ∷ [])
+    (0x50 ∷ 0x51 ∷ 0x0C ∷ 0x42 ∷ eight 0 1)
+    ∷ byList (put 16384 (eight 0 255) counterTag) (write 16384 (eight 1 0) ∷ []) (done ∷ [])
+    ∷ byList (put 16384 (eight 0 255) counterTag) (write 16384 (eight 1 1) ∷ []) (refused 12 ∷ [])
+    ∷ byList (put 16384 (replicate 8 255) counterTag) (write 16384 (replicate 8 0) ∷ []) (refused 12 ∷ [])
+    ∷ byList counterTag (write 16388 (eight 0 1) ∷ []) (refused 12 ∷ [])
+    ∷ byList counterTag (read 16384 0 0 ∷ []) (refused 2 ∷ [])
+    ∷ byList counterTag (read 16383 2 2 ∷ []) (refused 3 ∷ [])
+    ∷ byList counterTag (read 3983 1 1 ∷ []) (refused 4 ∷ [])
+    ∷ byList (tagWith 0x21 0x01)
+    (read 16384 1 1 ∷ write 16384 (7 ∷ []) ∷ read 16384 1 1 ∷ write 16384 (8 ∷ []) ∷ [])
+    (refused 6 ∷ done ∷ gives (7 ∷ []) ∷ refused 6 ∷ [])
+    ∷ byPa 1 0 (put 12 (1 ∷ []) counterTag) (write (registerAt 0) (replicate 16 0) ∷ []) (refused 9 ∷ [])
+    ∷ byPa 0 255 (put 12 (1 ∷ []) counterTag) (write (registerAt 0) (replicate 16 0) ∷ []) (refused 10 ∷ [])
+    ∷ byList (tagWith 0x81 0x23) (advance 0 ∷ []) (refused 14 ∷ [])
+    ∷ []
+
+abbrev pub StarredHold : Type 0
+StarredHold = map got starred ≡ map owed starred
+
+-- demand 3 is not empty: the first example's tag is sound, and its segment a locked counter segment
+pub record NotEmpty : Type 0 where
+  pub tag-sound : sound counterTag ≡ true
+  pub segment-locked : LockedCounter counterTag 0
+
+-- ---- "Errors that look right". 1 and 5 are among the examples above.
+
+-- 2: after a wrong response the flag is set, and the same counter value takes no second guess, not even the right one.
+-- 4: with index 7 validated (its PIN is zeros, and so is the counter), a unit that has RDPIN set and names 0 refuses 7, until 0 is
+-- validated again, or until power-up.
+unfoldable pub errors : List Example
+errors =
+    byList counterTag
+    (write (registerAt 0) (replicate 16 9) ∷ write (registerAt 0) (replicate 16 0) ∷ read 12 1 1 ∷ [])
+    (refused 11 ∷ refused 10 ∷ gives (1 ∷ []) ∷ [])
+    ∷ byPa 0 7 (tagWith 0xC5 0x00)
+    (write (registerAt 0) (replicate 16 0)
+    ∷ read 16384 1 1
+    ∷ write (registerAt 6) (replicate 16 0)
+    ∷ write 4 (eight 0 1)
+    ∷ write (registerAt 0) (replicate 15 0 ++ 1 ∷ [])
+    ∷ read 16384 1 1
+    ∷ [])
+    (done ∷ refused 7 ∷ done ∷ done ∷ done ∷ gives (0 ∷ []) ∷ [])
+    ∷ byPa 0 7 (tagWith 0xC5 0x00)
+    (write (registerAt 0) (replicate 16 0) ∷ read 16384 1 1 ∷ powerUp ∷ read 16384 1 1 ∷ [])
+    (done ∷ refused 7 ∷ done ∷ gives (0 ∷ []) ∷ [])
+    ∷ []
+
+abbrev pub ErrorsShown : Type 0
+ErrorsShown = map got errors ≡ map owed errors
+
+-- 3: "Calling a repeated XOR write or register write harmless." The second XOR write takes the first one back. The second NAME
+-- write, after the next counter value, sets the flag again and makes another name. Both are granted.
+
+unfoldable pub xorWrite : Command
+xorWrite = write 16384 (1 ∷ [])
+
+unfoldable pub nameWrite : Command
+nameWrite = write (registerAt 3) (replicate 16 5)
+
+-- model 3 at stage 1
+unfoldable pub xorState : State
+xorState = begin (replicate 16 0) (tagWith 0x21 0x13)
+
+unfoldable pub nameState : State
+nameState = begin (replicate 16 0) counterTag
+
+pub record RepeatsChange : Type 0 where
+  pub xor-granted : replies noCipher xorState (xorWrite ∷ xorWrite ∷ []) ≡ done ∷ done ∷ []
+  pub xor-changes : final noCipher xorState (xorWrite ∷ xorWrite ∷ []) ≢ final noCipher xorState (xorWrite ∷ [])
+  pub name-granted : replies noCipher nameState (nameWrite ∷ write 4 (eight 0 1) ∷ nameWrite ∷ []) ≡ done ∷ done ∷ done ∷ []
+  pub name-changes : final noCipher nameState (nameWrite ∷ write 4 (eight 0 1) ∷ nameWrite ∷ [])
+      ≢ final noCipher nameState (nameWrite ∷ write 4 (eight 0 1) ∷ [])

@@ -1,0 +1,37 @@
+-- Document 01, "Drawer examples", the last: "a host that knows the PIN reads after four uninterrupted commands: PA, counter, READ,
+-- read". Assumes nothing.
+use Prim.Native.Nat.{ℕ, _+_, _-_, _^_, _≤_, _<_}
+use mathlib.Core.Path.{_≡_}
+use mathlib.Core.Bool.{true, false}
+use mathlib.Core.List.{List, [], _∷_, _++_}
+use lib.ListN.{length}
+use Rattle.rules.specs.Bytes.{part, bytesOf}
+use Rattle.rules.specs.Map.{segments, counter, registerAt, segmentAt, sound}
+use Rattle.rules.specs.Units.{unitBytes, unitOf, wellFormed}
+use Rattle.rules.specs.State.{State, Cipher, pin, encipheredCounter}
+use Rattle.rules.specs.Command.{Command, read, write, Reply, done, gives}
+use Rattle.rules.specs.Run.{replies}
+
+-- The host names PIN index i in PA, the rest of which is any 14 bytes; writes the counter plus one; writes the response by the PIN
+-- and that counter; and reads the n bytes at a.
+unfoldable pub fourCommands : Cipher → (t : List ℕ) (i : ℕ) (rest : List ℕ) (a n room : ℕ) → List Command
+fourCommands E t i rest a n room =
+    write (registerAt 6) (bytesOf 2 i ++ rest)
+    ∷ write 4 (bytesOf 8 (counter t + 1))
+    ∷ write (registerAt 0) (encipheredCounter E (pin t i) (bytesOf 8 (counter t + 1)))
+    ∷ read a n room
+    ∷ []
+
+-- "For a segment with RD set, PN clear and a well-formed unit, on a sound tag with counter below 2^64 - 1": of the cipher it is
+-- assumed only that a block of 16 bytes gives 16
+abbrev pub HostReads : Type 0
+HostReads =
+    (E : Cipher) → ((key block : List ℕ) → length block ≡ 16 → length (E key block) ≡ 16)
+    → (s : State) (k a n room : ℕ) (rest : List ℕ)
+    → sound (s .tag) ≡ true → counter (s .tag) < 2 ^ 64 - 1
+    → k < segments (s .tag) → wellFormed (unitBytes (s .tag) k) ≡ true
+    → unitOf (unitBytes (s .tag) k) .rd ≡ true → unitOf (unitBytes (s .tag) k) .pn ≡ false
+    → 1 ≤ n → n ≤ room → segmentAt (segments (s .tag)) k ≤ a → a + n ≤ segmentAt (segments (s .tag)) k + 4096
+    → length rest ≡ 14
+    → replies E s (fourCommands E (s .tag) (unitOf (unitBytes (s .tag) k) .read) rest a n room)
+    ≡ done ∷ done ∷ done ∷ gives (part a n (s .tag)) ∷ []

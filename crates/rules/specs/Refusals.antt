@@ -1,0 +1,222 @@
+-- Document 01, "What a command does" and "Refusal numbers": what refuses a command in a place, 4 to 14. Assumes nothing.
+-- `t` is the tag, `v` the session, `u` the bytes of a unit, `bs` the bytes to be written.
+use Prim.Native.Nat.{ℕ, _+_, _-_, _%_}
+use mathlib.Core.Bool.{Bool, true, false, _&&_, not, cond}
+use mathlib.Core.List.{List, [], _∷_}
+use mathlib.Core.Option.{Option, none, some}
+use lib.ListN.{length}
+use lib.Dec.{eqb, leb, ltb}
+use Rattle.rules.specs.declared.Stage.{Stage}
+use Rattle.rules.specs.declared.Stage.the-variants.{Zero, One, Two}
+use Rattle.rules.specs.declared.Model.{Model}
+use Rattle.rules.specs.declared.Model.the-variants.{Default, WriteOnce, Counter, Receiver}
+use Rattle.rules.specs.declared.Register.{Register}
+use Rattle.rules.specs.declared.Register.the-variants.{Read, Write, Edit, Name, Id, Commit, Pa}
+use Rattle.rules.specs.declared.Place.{Place}
+use Rattle.rules.specs.declared.Place.the-variants.{Header, Hidden, RegisterOf, Pins, Readers, UnitOf, Spare, Segment, Public}
+use Rattle.rules.specs.declared.Session.{Session}
+use Rattle.rules.specs.Bytes.{byte, part, put, number, same, all}
+use Rattle.rules.specs.Map.{segments, counter, flag, unitAt, segmentAt}
+use Rattle.rules.specs.Units.{unitBytes, modelled, unitOf, nameOf, wellFormed}
+use Rattle.rules.specs.State.{State, pinIndex, ownerIndex, guard, pin, owner, Cipher, response}
+
+-- ---- the table's numbers, each with when it is given, in ascending order
+
+infixr 20 _when_else_
+pub data Checks : Type 0 where
+  granted : Checks
+  _when_else_ : ℕ → Bool → Checks → Checks
+
+-- "The lowest refusal number that applies is given."
+unfoldable pub lowest : Checks → Option ℕ
+lowest granted = none
+lowest (n when true else cs) = some n
+lowest (n when false else cs) = lowest cs
+
+-- "place never takes it"
+abbrev pub never : Checks
+never = 4 when true else granted
+
+-- ---- "Header: .. the only write is eight bytes at 4, which must be the counter plus one as a whole number"
+
+-- the bytes hold the value after that of the old ones, as whole numbers, so that nothing wraps
+unfoldable pub isNext : List ℕ → List ℕ → Bool
+isNext old bs = eqb (number bs) (number old + 1)
+
+unfoldable pub headerWriteChecks : List ℕ → ℕ → List ℕ → Checks
+headerWriteChecks t a bs =
+    4 when not (eqb a 4 && eqb (length bs) 8) else
+    12 when not (isNext (part 4 8 t) bs) else
+    granted
+
+-- ---- "Segment read: RD set; if RDPIN, the validated read index equals the unit's; if PN, the session name equals the unit's."
+
+unfoldable pub segmentReadChecks : Session → List ℕ → Checks
+segmentReadChecks v u =
+    5 when not (wellFormed u) else
+    6 when not (unitOf u .rd) else
+    7 when unitOf u .rdpin && not (eqb (v .read) (unitOf u .read)) else
+    8 when unitOf u .pn && not (same (v .name) (nameOf u)) else
+    granted
+
+-- ---- "Segment write: the same with WR, WRPIN and the write index."
+
+-- "Model 2 takes one aligned slot of eight bytes holding the old value plus one": `bs` for `old` at offset `o` of the segment
+unfoldable pub slotRefuses : Model → ℕ → List ℕ → List ℕ → Bool
+slotRefuses Default o old bs = false
+slotRefuses WriteOnce o old bs = false
+slotRefuses Counter o old bs = not (all (eqb (o % 8) 0 ∷ eqb (length bs) 8 ∷ isNext old bs ∷ []))
+slotRefuses (Receiver g) o old bs = false
+
+unfoldable pub segmentWriteChecks : Session → List ℕ → ℕ → List ℕ → List ℕ → Checks
+segmentWriteChecks v u o old bs =
+    5 when not (wellFormed u) else
+    6 when not (unitOf u .wr) else
+    7 when unitOf u .wrpin && not (eqb (v .write) (unitOf u .write)) else
+    8 when unitOf u .pn && not (same (v .name) (nameOf u)) else
+    12 when slotRefuses (unitOf u .model) o old bs else
+    granted
+
+-- ---- "Unit read: allowed, but with PN set no byte of the name": the bytes end at offset `o` of the unit
+
+unfoldable pub unitReadChecks : List ℕ → ℕ → Checks
+unitReadChecks u o =
+    5 when not (wellFormed u) else
+    6 when unitOf u .pn && ltb 16 o else
+    granted
+
+-- ---- "Unit edit: nE clear, the validated edit index equal to the unit's (as it was before the edit), and the result well formed."
+
+unfoldable pub isReceiver : Model → Bool
+isReceiver Default = false
+isReceiver WriteOnce = false
+isReceiver Counter = false
+isReceiver (Receiver g) = true
+
+unfoldable pub pastStageZero : Model → Bool
+pastStageZero Default = false
+pastStageZero WriteOnce = false
+pastStageZero Counter = false
+pastStageZero (Receiver Zero) = false
+pastStageZero (Receiver One) = true
+pastStageZero (Receiver Two) = true
+
+unfoldable pub sameBool : Bool → Bool → Bool
+sameBool true b = b
+sameBool false b = not b
+
+-- "If it was model 3 with M, then M, RD, WR and byte 1 must stay"
+unfoldable pub keepsModel : List ℕ → List ℕ → Bool
+keepsModel u w =
+    all (
+    sameBool (modelled u) (modelled w)
+    ∷ sameBool (unitOf u .rd) (unitOf w .rd)
+    ∷ sameBool (unitOf u .wr) (unitOf w .wr)
+    ∷ eqb (byte 1 u) (byte 1 w)
+    ∷ [])
+
+-- the edit that turns `u` into `w`; "if it becomes model 3, its stage is 0"
+unfoldable pub editAllowed : List ℕ → List ℕ → Bool
+editAllowed u w =
+    all (
+    wellFormed w
+    ∷ cond (isReceiver (unitOf u .model)) (keepsModel u w) (not (pastStageZero (unitOf w .model)))
+    ∷ [])
+
+unfoldable pub editChecks : Session → List ℕ → List ℕ → Checks
+editChecks v u w =
+    5 when not (wellFormed u) else
+    6 when unitOf u .ne else
+    7 when not (eqb (v .edit) (unitOf u .edit)) else
+    13 when not (editAllowed u w) else
+    granted
+
+-- ---- "Advance (segment number): model 3 only, stage 0 to 1, 1 to 2 .. WRPIN and PN are checked as for a write, nE and WR are not."
+
+unfoldable pub canAdvance : Model → Bool
+canAdvance Default = false
+canAdvance WriteOnce = false
+canAdvance Counter = false
+canAdvance (Receiver Zero) = true
+canAdvance (Receiver One) = true
+canAdvance (Receiver Two) = false
+
+unfoldable pub advanceChecks : Session → List ℕ → Checks
+advanceChecks v u =
+    5 when not (wellFormed u) else
+    7 when unitOf u .wrpin && not (eqb (v .write) (unitOf u .write)) else
+    8 when unitOf u .pn && not (same (v .name) (nameOf u)) else
+    14 when not (canAdvance (unitOf u .model)) else
+    granted
+
+-- ---- registers
+
+-- "ID and PA registers: store 16 bytes in the session, no flag."
+unfoldable pub plainChecks : List ℕ → Checks
+plainChecks bs =
+    9 when not (eqb (length bs) 16) else
+    granted
+
+-- "READ, WRITE, EDIT: flag must be 0 .. If the 16 bytes equal E_PIN(counter) for the PIN that PA names"
+unfoldable pub responseChecks : Cipher → State → List ℕ → Checks
+responseChecks E s bs =
+    9 when not (eqb (length bs) 16) else
+    9 when not (leb (pinIndex (s .session)) 255) else
+    10 when eqb (flag (s .tag)) 1 else
+    11 when not (same bs (response E (pin (s .tag) (pinIndex (s .session))) (s .tag))) else
+    granted
+
+-- "NAME: same flag rule"
+unfoldable pub nameChecks : State → List ℕ → Checks
+nameChecks s bs =
+    9 when not (eqb (length bs) 16) else
+    9 when not (leb (pinIndex (s .session)) 255) else
+    10 when eqb (flag (s .tag)) 1 else
+    granted
+
+-- "COMMIT: same flag rule; let K be the owner PIN. The guard must equal bytes 4 to 15 of E_K applied to the 16 written bytes"
+unfoldable pub commitChecks : Cipher → State → List ℕ → Checks
+commitChecks E s bs =
+    9 when not (eqb (length bs) 16) else
+    9 when not (leb (pinIndex (s .session)) 255) else
+    9 when eqb (pinIndex (s .session)) 0 else
+    9 when not (leb (ownerIndex (s .session)) 3) else
+    10 when eqb (flag (s .tag)) 1 else
+    11 when not (same (guard (s .session)) (part 4 12 (E (owner (s .tag) (ownerIndex (s .session))) bs))) else
+    granted
+
+unfoldable pub registerChecks : Cipher → State → Register → List ℕ → Checks
+registerChecks E s Read bs = responseChecks E s bs
+registerChecks E s Write bs = responseChecks E s bs
+registerChecks E s Edit bs = responseChecks E s bs
+registerChecks E s Name bs = nameChecks s bs
+registerChecks E s Id bs = plainChecks bs
+registerChecks E s Commit bs = commitChecks E s bs
+registerChecks E s Pa bs = plainChecks bs
+
+-- ---- by place: a read of the `n` bytes at `a`, and a write of `bs` at `a`
+
+unfoldable pub readChecks : State → Place → ℕ → ℕ → Checks
+readChecks s Header a n = granted
+readChecks s Hidden a n = never
+readChecks s (RegisterOf r) a n = never
+readChecks s Pins a n = never
+readChecks s Readers a n = granted
+readChecks s (UnitOf k) a n = unitReadChecks (unitBytes (s .tag) k) (a + n - unitAt k)
+readChecks s Spare a n = never
+readChecks s (Segment k) a n = segmentReadChecks (s .session) (unitBytes (s .tag) k)
+readChecks s (Public k) a n = granted
+
+unfoldable pub writeChecks : Cipher → State → Place → ℕ → List ℕ → Checks
+writeChecks E s Header a bs = headerWriteChecks (s .tag) a bs
+writeChecks E s Hidden a bs = never
+writeChecks E s (RegisterOf r) a bs = registerChecks E s r bs
+writeChecks E s Pins a bs = never
+writeChecks E s Readers a bs = never
+writeChecks E s (UnitOf k) a bs =
+    editChecks (s .session) (unitBytes (s .tag) k) (unitBytes (put a bs (s .tag)) k)
+writeChecks E s Spare a bs = never
+writeChecks E s (Segment k) a bs =
+    segmentWriteChecks (s .session) (unitBytes (s .tag) k)
+    (a - segmentAt (segments (s .tag)) k) (part a (length bs) (s .tag)) bs
+writeChecks E s (Public k) a bs = granted

@@ -1,0 +1,98 @@
+//! The types that the rules (specs/) and the tag's code share, each declared once. specs/Answers.antt gives the numbers that
+//! document 01 has for the cases of the answers.
+
+/// "The session is kept by value beside the memory": three validated indexes, and the name, ID and PA arrays.
+pub struct Session {
+    pub read: usize,
+    pub write: usize,
+    pub edit: usize,
+    pub name: [u8; 16],
+    pub id: [u8; 16],
+    pub pa: [u8; 16],
+}
+
+/// The stages of model 3.
+pub enum Stage {
+    Zero,
+    One,
+    Two,
+}
+
+/// A segment's model, 0 to 3: "a record whose model carries its own stage".
+pub enum Model {
+    Default,
+    WriteOnce,
+    Counter,
+    Receiver(Stage),
+}
+
+/// A unit, without its name: control bits, model, and the read, write and edit PIN index.
+pub struct Unit {
+    pub rd: bool,
+    pub rdpin: bool,
+    pub wr: bool,
+    pub wrpin: bool,
+    pub pn: bool,
+    pub ne: bool,
+    pub model: Model,
+    pub read: usize,
+    pub write: usize,
+    pub edit: usize,
+}
+
+/// The seven registers, in the order of their addresses.
+pub enum Register {
+    Read,
+    Write,
+    Edit,
+    Name,
+    Id,
+    Commit,
+    Pa,
+}
+
+/// The places of the memory map. `Public(0)` is the first public segment.
+pub enum Place {
+    Header,
+    Hidden,
+    RegisterOf(Register),
+    Pins,
+    Readers,
+    UnitOf(usize),
+    Spare,
+    Segment(usize),
+    Public(usize),
+}
+
+/// The refusals 1 to 16, in the order of their numbers.
+pub enum Refusal {
+    Unsound,
+    Count,
+    Outside,
+    NeverTaken,
+    Malformed,
+    Forbidden,
+    OtherPin,
+    OtherName,
+    BadRegister,
+    FlagUsed,
+    WrongResponse,
+    NotNext,
+    BadEdit,
+    NoAdvance,
+    Unreadable,
+    NoRoom,
+}
+
+/// What a command answers. The bytes of a granted read stand in its output.
+pub enum Answer {
+    Done,
+    Refused(Refusal),
+}
+
+/// What ends a run over a log: its end, a 15 or a 16.
+pub enum Stop {
+    End,
+    BadCommand,
+    OutputFull,
+}
