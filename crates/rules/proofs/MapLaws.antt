@@ -8,6 +8,7 @@ use lib.ListN.{length}
 use borrow.Author.Tests.{leb-true, eqb-true, eq-eqb, le-leb}
 use Rattle.rules.specs.Bytes.{zeros, part, put, number}
 use Rattle.rules.specs.Map.{most, unitAt, segmentsAt, segments, managements, segmentAt, publics, flag, pinAt, sound, soundness, placeOf}
+use Rattle.rules.specs.Claims.{Sizes}
 use Rattle.rules.proofs.Tests.{all-true, all-and, all-none}
 use Rattle.rules.proofs.BytesLaws.{Apart, part-put, byte-put-out, byte-put, length-put}
 
@@ -109,3 +110,10 @@ sound-flag v t l e =
       padding = rw (part-put 13 3 12 (v ∷ []) t (omega arith)) (f .padding);
       pin-zero = rw (part-put (pinAt 0) 16 12 (v ∷ []) t (omega arith)) (f .pin-zero);
     })
+
+pub sizes : (t : List ℕ) → sound t ≡ true → Sizes t
+unfolding most managements segmentsAt
+sizes t w =
+    let f = sound-facts t w in
+    let l = f .long in
+    record { smallest = omega arith; largest = omega arith }

@@ -1,11 +1,12 @@
 -- A refused command changes nothing, except 11, which sets the flag; and the number is the lowest that applies.
-use Prim.Native.Nat.{ℕ, _≤_}
+use Prim.Native.Nat.{ℕ, suc, _+_, _≤_, _<_}
 use mathlib.Core.Path.{_≡_, refl, sym, ap, subst, _∙_}
 use mathlib.Core.Logic.{_≢_, inl, inr}
 use mathlib.Core.Bool.{Bool, true, false, _&&_, not, cond}
 use mathlib.Core.List.{List, [], _∷_}
 use mathlib.Core.Option.{Option, none, some}
 use native.Mathlib.Omega.{arith}
+use native.Mathlib.Decide.{ℕ-discrete}
 use lib.ListN.{length}
 use lib.Dec.{eqb, leb}
 use borrow.Author.Tests.{leb-true, eq-eqb, ne-eqb}
@@ -13,13 +14,16 @@ use Rattle.rules.specs.declared.Register.{Register}
 use Rattle.rules.specs.declared.Register.the-variants.{Read, Write, Edit, Name, Id, Commit, Pa}
 use Rattle.rules.specs.declared.Place.{Place}
 use Rattle.rules.specs.declared.Place.the-variants.{Header, Hidden, RegisterOf, Pins, Readers, UnitOf, Spare, Segment, Public}
+use Rattle.rules.specs.declared.Refusal.{Refusal}
+use Rattle.rules.specs.declared.Refusal.the-variants.{Unsound, Count, Outside, NeverTaken, Malformed, Forbidden, OtherPin, OtherName, BadRegister, FlagUsed, WrongResponse, NotNext, BadEdit, NoAdvance}
 use Rattle.rules.specs.Bytes.{put, byte}
 use Rattle.rules.specs.Map.{placeOf, sound, flag}
 use Rattle.rules.specs.State.{Cipher, State}
+use Rattle.rules.specs.Answers.{numberOf}
 use Rattle.rules.specs.Refusals.{Checks, granted, _when_else_, lowest, registerChecks, responseChecks, nameChecks, commitChecks, plainChecks, writeChecks, headerWriteChecks, editChecks, segmentWriteChecks, readChecks, unitReadChecks, segmentReadChecks, advanceChecks}
 use Rattle.rules.specs.Effects.{refusalStores, apply, setFlag}
-use Rattle.rules.specs.Command.{write, inPlace, read, checks, Command, advance, powerUp, refusal, refused, after, afterBy, filled, reply, replyBy}
-use Rattle.rules.specs.Claims.{Applies, LowestGiven, RefusedChangesNothing}
+use Rattle.rules.specs.Command.{write, inPlace, read, Command, advance, powerUp, checks, refusal, refused, after, afterBy, filled, reply, replyBy}
+use Rattle.rules.specs.Claims.{Applies, LowestGiven, RefusalNamed, RefusedChangesNothing}
 use Rattle.rules.proofs.Tests.{and-true, true-false, some-none}
 use Rattle.rules.proofs.BytesLaws.{byte-put, byte-put-out, length-put}
 use Rattle.rules.proofs.MapLaws.{sound-long}
@@ -27,29 +31,36 @@ use Rattle.rules.proofs.Grants.{reply-is}
 
 -- ---- the lists of checks ascend, so the first number that applies is the lowest
 
-abbrev ascends : ℕ → Checks → Bool
-ascends k granted = true
-ascends k (n when b else cs) = leb k n && ascends n cs
+-- from k on, and up to top
+abbrev ascends : (k top : ℕ) → Checks → Bool
+ascends k top granted = true
+ascends k top (n when b else cs) = leb k n && leb n top && ascends n top cs
 
-bounded : (k : ℕ) (cs : Checks) (m : ℕ) → ascends k cs ≡ true → Applies m cs → k ≤ m
-bounded k granted m h a = absurd a
-bounded k (n when b else cs) m h (inl a) =
-    let x = leb-true k n (and-true (leb k n) (ascends n cs) h .0) in omega (arith, a .0, x)
-bounded k (n when b else cs) m h (inr a) =
-    let x = and-true (leb k n) (ascends n cs) h in
-    let y = leb-true k n (x .0) in
-    let z = bounded n cs m (x .1) a in
-    omega arith
+ascends-facts : (k top n : ℕ) (b : Bool) (cs : Checks) → ascends k top (n when b else cs) ≡ true
+    → (k ≤ n) × (n ≤ top) × (ascends n top cs ≡ true)
+ascends-facts k top n b cs h =
+    let x = and-true (leb k n && leb n top) (ascends n top cs) h in
+    let y = and-true (leb k n) (leb n top) (x .0) in
+    (leb-true k n (y .0), leb-true n top (y .1), x .1)
+
+bounded : (k top : ℕ) (cs : Checks) (m : ℕ) → ascends k top cs ≡ true → Applies m cs → (k ≤ m) × (m ≤ top)
+bounded k top granted m h a = absurd a
+bounded k top (n when b else cs) m h (inl a) =
+    let x = ascends-facts k top n b cs h in (omega (arith, a .0, x .0), omega (arith, a .0, x .1))
+bounded k top (n when b else cs) m h (inr a) =
+    let x = ascends-facts k top n b cs h in
+    let z = bounded n top cs m (x .2) a in
+    (omega (arith, z .0, x .0), z .1)
 
 abbrev Least : ℕ → Checks → Type 0
 Least n cs = Applies n cs × ((m : ℕ) → Applies m cs → n ≤ m)
 
-least-now : (j : ℕ) (cs : Checks) → ascends j cs ≡ true → Least j (j when true else cs)
-least-now j cs h = (inl (refl, refl), least)
+least-now : (j top : ℕ) (cs : Checks) → ascends j top cs ≡ true → Least j (j when true else cs)
+least-now j top cs h = (inl (refl, refl), least)
   where
     least : (m : ℕ) → Applies m (j when true else cs) → j ≤ m
     least m (inl a) = omega (arith, a .0)
-    least m (inr a) = bounded j cs m h a
+    least m (inr a) = bounded j top cs m h a .0
 
 least-later : (j : ℕ) (cs : Checks) (n : ℕ) → Least n cs → Least n (j when false else cs)
 least-later j cs n x = (inr (x .0), least)
@@ -58,13 +69,14 @@ least-later j cs n x = (inr (x .0), least)
     least m (inl a) = true-false (sym (a .1))
     least m (inr a) = x .1 m a
 
-least-given : (k : ℕ) (cs : Checks) (n : ℕ) → ascends k cs ≡ true → lowest cs ≡ some n → Least n cs
+least-given : (k top : ℕ) (cs : Checks) (n : ℕ) → ascends k top cs ≡ true → lowest cs ≡ some n → Least n cs
 unfolding lowest
-least-given k granted n h e = some-none (sym e)
-least-given k (j when true else cs) n h e =
-    let q : j ≡ n = cc in subst (λ m. Least m (j when true else cs)) q (least-now j cs (and-true (leb k j) (ascends j cs) h .1))
-least-given k (j when false else cs) n h e =
-    least-later j cs n (least-given j cs n (and-true (leb k j) (ascends j cs) h .1) e)
+least-given k top granted n h e = some-none (sym e)
+least-given k top (j when true else cs) n h e =
+    let q : j ≡ n = cc in
+    subst (λ m. Least m (j when true else cs)) q (least-now j top cs (ascends-facts k top j true cs h .2))
+least-given k top (j when false else cs) n h e =
+    least-later j cs n (least-given j top cs n (ascends-facts k top j false cs h .2) e)
 
 none-left : (cs : Checks) (m : ℕ) → lowest cs ≡ none → Applies m cs → ⊥
 unfolding lowest
@@ -73,7 +85,7 @@ none-left (j when true else cs) m e a = some-none e
 none-left (j when false else cs) m e (inl a) = true-false (sym (a .1))
 none-left (j when false else cs) m e (inr a) = none-left cs m e a
 
-register-ascends : (E : Cipher) (s : State) (r : Register) (bs : List ℕ) → ascends 2 (registerChecks E s r bs) ≡ true
+register-ascends : (E : Cipher) (s : State) (r : Register) (bs : List ℕ) → ascends 2 14 (registerChecks E s r bs) ≡ true
 unfolding registerChecks responseChecks nameChecks commitChecks plainChecks
 register-ascends E s Read bs = refl
 register-ascends E s Write bs = refl
@@ -83,7 +95,7 @@ register-ascends E s Id bs = refl
 register-ascends E s Commit bs = refl
 register-ascends E s Pa bs = refl
 
-write-ascends : (E : Cipher) (s : State) (a : ℕ) (bs : List ℕ) (q : Option Place) → ascends 2 (inPlace q (λ p. writeChecks E s p a bs)) ≡ true
+write-ascends : (E : Cipher) (s : State) (a : ℕ) (bs : List ℕ) (q : Option Place) → ascends 2 14 (inPlace q (λ p. writeChecks E s p a bs)) ≡ true
 unfolding inPlace writeChecks headerWriteChecks editChecks segmentWriteChecks
 write-ascends E s a bs none = refl
 write-ascends E s a bs (some Header) = refl
@@ -96,7 +108,8 @@ write-ascends E s a bs (some Spare) = refl
 write-ascends E s a bs (some (Segment k)) = refl
 write-ascends E s a bs (some (Public k)) = refl
 
-read-ascends : (s : State) (a n : ℕ) (q : Option Place) → ascends 2 (inPlace q (λ p. readChecks s p a n)) ≡ true
+-- a read gets no number above 8
+read-ascends : (s : State) (a n : ℕ) (q : Option Place) → ascends 2 8 (inPlace q (λ p. readChecks s p a n)) ≡ true
 unfolding inPlace readChecks unitReadChecks segmentReadChecks
 read-ascends s a n none = refl
 read-ascends s a n (some Header) = refl
@@ -109,7 +122,14 @@ read-ascends s a n (some Spare) = refl
 read-ascends s a n (some (Segment k)) = refl
 read-ascends s a n (some (Public k)) = refl
 
-checks-ascend : (E : Cipher) (s : State) (c : Command) → ascends 1 (checks E s c) ≡ true
+-- the highest number that the checks of a command can give
+abbrev highest : Command → ℕ
+highest (read a n room) = 8
+highest (write a bs) = 14
+highest (advance k) = 14
+highest powerUp = 14
+
+checks-ascend : (E : Cipher) (s : State) (c : Command) → ascends 1 (highest c) (checks E s c) ≡ true
 unfolding checks advanceChecks
 checks-ascend E s (read a n room) = read-ascends s a n (placeOf (s .tag) a n)
 checks-ascend E s (write a bs) = write-ascends E s a bs (placeOf (s .tag) a (length bs))
@@ -120,9 +140,46 @@ pub lowest-given : (E : Cipher) (s : State) (c : Command) → LowestGiven E s c
 unfolding refusal
 lowest-given E s c =
     record {
-      lowest-given = λ n e. least-given 1 (checks E s c) n (checks-ascend E s c) e;
+      lowest-given = λ n e. least-given 1 (highest c) (checks E s c) n (checks-ascend E s c) e;
       grant-owed = λ e m a. none-left (checks E s c) m e a;
     }
+
+-- ---- the number is one of the table, and has its case of `Refusal`
+
+number-bounded : (E : Cipher) (s : State) (c : Command) (n : ℕ) → refusal E s c ≡ some n → (1 ≤ n) × (n ≤ highest c)
+number-bounded E s c n e =
+    bounded 1 (highest c) (checks E s c) n (checks-ascend E s c) (lowest-given E s c .lowest-given n e .0)
+
+pub read-not-11 : (E : Cipher) (s : State) (a n room m : ℕ) → refusal E s (read a n room) ≡ some m → m ≢ 11
+read-not-11 E s a n room m e q = let x = number-bounded E s (read a n room) m e in absurd (omega arith)
+
+-- cases that are numbered from k on
+abbrev NumberedFrom : ℕ → List Refusal → Type 0
+NumberedFrom k [] = Unit {0}
+NumberedFrom k (r ∷ rs) = (numberOf r ≡ k) × NumberedFrom (suc k) rs
+
+named-in : (rs : List Refusal) (k n : ℕ) → NumberedFrom k rs → k ≤ n → n < k + length rs → RefusalNamed n
+named-in [] k n h b c = absurd (omega arith)
+named-in (r ∷ rs) k n h b c = by (ℕ-discrete k n) (λ d. named-in rs (suc k) n (h .1) d (omega arith))
+  where
+    by : Dec (k ≡ n) → (suc k ≤ n → RefusalNamed n) → RefusalNamed n
+    by (yes e) later = record { refusal-case = r; its-number = h .0 ∙ e }
+    by (no e) later = later (omega arith)
+
+pub refusal-named : (E : Cipher) (s : State) (c : Command) (n : ℕ) → refusal E s c ≡ some n → RefusalNamed n
+refusal-named E s c n e =
+    let x = number-bounded E s c n e in
+    named-in
+    (Unsound ∷ Count ∷ Outside ∷ NeverTaken ∷ Malformed ∷ Forbidden ∷ OtherPin ∷ OtherName ∷ BadRegister ∷ FlagUsed
+    ∷ WrongResponse ∷ NotNext ∷ BadEdit ∷ NoAdvance ∷ [])
+    1 n (refl, (refl, (refl, (refl, (refl, (refl, (refl, (refl, (refl, (refl, (refl, (refl, (refl, (refl, tt))))))))))))))
+    (x .0) (at-most c (x .1))
+  where
+    at-most : (c : Command) → n ≤ highest c → n < 15
+    at-most (read a m room) h = omega arith
+    at-most (write a bs) h = omega arith
+    at-most (advance k) h = omega arith
+    at-most powerUp h = omega arith
 
 -- ---- the state after a refusal
 

@@ -10,12 +10,11 @@ use lib.ListN.{length}
 use lib.Dec.{eqb}
 use borrow.Author.Tests.{eqb-false, eq-eqb, ne-eqb}
 use Rattle.rules.specs.declared.Place.{Place}
-use Rattle.rules.specs.declared.Place.the-variants.{Header, Hidden, RegisterOf, Pins, Readers, UnitOf, Spare, Segment, Public}
-use Rattle.rules.specs.Map.{segments, publics, placeOf, sound}
-use Rattle.rules.specs.State.{State, Cipher}
-use Rattle.rules.specs.Refusals.{Checks, granted, _when_else_, lowest, readChecks, unitReadChecks, segmentReadChecks, writeChecks, segmentWriteChecks}
+use Rattle.rules.specs.Map.{segments, publics, sound, placeOf}
+use Rattle.rules.specs.State.{Cipher, State}
+use Rattle.rules.specs.Refusals.{Checks, granted, _when_else_, lowest, writeChecks, segmentWriteChecks}
 use Rattle.rules.specs.Effects.{Store, refusalStores, writeSession, apply}
-use Rattle.rules.specs.Command.{Command, read, write, inPlace, refusal, checks, stores, afterBy, after, newSession, sessionIn}
+use Rattle.rules.specs.Command.{Command, read, write, refusal, checks, inPlace, stores, afterBy, after, newSession, sessionIn}
 use Rattle.rules.specs.Claims.{Applies, Holds}
 use Rattle.rules.proofs.Tests.{some-none, or-false, same-some}
 use Rattle.rules.proofs.StoreLaws.{Each}
@@ -23,7 +22,7 @@ use Rattle.rules.proofs.MapLaws.{sound-facts}
 use Rattle.rules.proofs.Places.{Numbered, controlled, open-to-all, place-found, placed}
 use Rattle.rules.proofs.Grants.{madeBy, granted-write, stores-write, after-tag}
 use Rattle.rules.proofs.Lawful.{Lawful, write-lawful}
-use Rattle.rules.proofs.Refused.{lowest-given, eleven-sound}
+use Rattle.rules.proofs.Refused.{lowest-given, read-not-11, eleven-sound}
 
 -- a read or write of the n bytes at a
 pub data Ranged (a n : ℕ) : Command → Type 0 where
@@ -42,19 +41,6 @@ not-11 granted n h e = some-none (sym e)
 not-11 (m when true else cs) n h e =
     let q : m ≡ n = cc in λ f. eqb-false m 11 (or-false (eqb m 11) (has11 cs) h .0) (q ∙ f)
 not-11 (m when false else cs) n h e = not-11 cs n (or-false (eqb m 11) (has11 cs) h .1) e
-
-read-not-11 : (s : State) (a n : ℕ) (q : Option Place) → has11 (inPlace q (λ p. readChecks s p a n)) ≡ false
-unfolding inPlace readChecks unitReadChecks segmentReadChecks
-read-not-11 s a n none = refl
-read-not-11 s a n (some Header) = refl
-read-not-11 s a n (some Hidden) = refl
-read-not-11 s a n (some (RegisterOf r)) = refl
-read-not-11 s a n (some Pins) = refl
-read-not-11 s a n (some Readers) = refl
-read-not-11 s a n (some (UnitOf k)) = refl
-read-not-11 s a n (some Spare) = refl
-read-not-11 s a n (some (Segment k)) = refl
-read-not-11 s a n (some (Public k)) = refl
 
 write-not-11 : (E : Cipher) (s : State) (A P k a : ℕ) (bs : List ℕ) (p : Place) → Numbered A P k p → has11 (writeChecks E s p a bs) ≡ false
 unfolding writeChecks segmentWriteChecks
@@ -76,7 +62,7 @@ pub ranged-not-11 : (E : Cipher) (s : State) (k a n : ℕ) (p : Place) (c : Comm
     → Numbered (segments (s .tag)) (publics (s .tag)) k p → Holds (s .tag) p a n → Ranged a n c
     → (m : ℕ) → refusal E s c ≡ some m → m ≢ 11
 unfolding refusal checks inPlace
-ranged-not-11 E s k a n p c u h (a-read room) m e = not-11 _ m (read-not-11 s a n (placeOf (s .tag) a n)) e
+ranged-not-11 E s k a n p c u h (a-read room) m e = read-not-11 E s a n room m e
 ranged-not-11 E s k a n p c u h (a-write bs l) m e =
     λ q.
     let e11 = e ∙ ap some q in

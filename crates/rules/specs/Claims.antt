@@ -9,11 +9,13 @@ use lib.ListN.{length, drop, replicate}
 use Rattle.rules.specs.declared.Model.{Model}
 use Rattle.rules.specs.declared.Model.the-variants.{Default, WriteOnce, Counter, Receiver}
 use Rattle.rules.specs.declared.Place.{Place}
+use Rattle.rules.specs.declared.Refusal.{Refusal}
 use Rattle.rules.specs.declared.Stop.the-variants.{End, BadCommand, OutputFull}
 use Rattle.rules.specs.Bytes.{byte, put, part}
 use Rattle.rules.specs.Map.{Row, row, rows, segments, publics, placeOf, sound, flag}
 use Rattle.rules.specs.Units.{unitBytes, unitOf, bit}
 use Rattle.rules.specs.State.{Cipher, State}
+use Rattle.rules.specs.Answers.{numberOf}
 use Rattle.rules.specs.Refusals.{Checks, granted, _when_else_}
 use Rattle.rules.specs.Effects.{readOnly, advanced}
 use Rattle.rules.specs.Command.{Command, refusal, checks, reply, refused, filled, after, powerUp}
@@ -39,6 +41,11 @@ pub record TheMap (t : List ℕ) : Type 0 where
   pub one-place : (p q : Place) (a n : ℕ) → 1 ≤ n → Holds t p a n → Holds t q a n → p ≡ q
   pub every-byte : (a : ℕ) → a < length t → (p : Place) × (placeOf t a 1 ≡ some p)
 
+-- "Smallest 20,480 bytes, largest 1,064,960."
+pub record Sizes (t : List ℕ) : Type 0 where
+  pub smallest : 20480 ≤ length t
+  pub largest : length t ≤ 1064960
+
 abbrev pub MapExact : Type 0
 MapExact = (t : List ℕ) → sound t ≡ true → TheMap t
 
@@ -53,6 +60,11 @@ pub record LowestGiven (E : Cipher) (s : State) (c : Command) : Type 0 where
   pub lowest-given : (n : ℕ) → refusal E s c ≡ some n
       → Applies n (checks E s c) × ((m : ℕ) → Applies m (checks E s c) → n ≤ m)
   pub grant-owed : refusal E s c ≡ none → (m : ℕ) → Applies m (checks E s c) → ⊥
+
+-- every number that is given has its case of `Refusal`
+pub record RefusalNamed (n : ℕ) : Type 0 where
+  pub refusal-case : Refusal
+  pub its-number : numberOf refusal-case ≡ n
 
 -- ---- "A refused command .. returns its number alone and changes nothing, except 11, which sets the flag."
 
