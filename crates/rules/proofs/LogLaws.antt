@@ -12,7 +12,7 @@ use Rattle.rules.specs.declared.Stop.the-variants.{BadCommand, End, Outp
 use Rattle.rules.specs.State.{Cipher, State}
 use Rattle.rules.specs.Command.{Command, refused, reply, after}
 use Rattle.rules.specs.Run.{replies, final}
-use Rattle.rules.specs.Log.{parsed, first, unreadable, parsedBy, _taking_then_, runLog, carriedOut, commandsOf, end, roomFor, stopped, encoded, Parsed, onward, Run, encodedAll, Kind, wholeOf, bodyLength, commandOf}
+use Rattle.rules.specs.Log.{parsed, first, unreadable, parsedBy, _taking_then_, runLog, carriedOut, commandsOf, roomFor, stopped, encoded, Parsed, onward, Run, encodedAll, end, Kind, wholeOf, bodyLength, commandOf}
 use Rattle.rules.specs.Claims.{LogIsItsCommands}
 use Rattle.rules.proofs.Tests.{some-none, same-some}
 

@@ -7,7 +7,7 @@ use native.Mathlib.Omega.{arith}
 use lib.ListN.{length}
 use borrow.Author.Tests.{leb-true, eqb-true, eq-eqb, le-leb}
 use Rattle.rules.specs.Bytes.{zeros, part, put, number}
-use Rattle.rules.specs.Map.{most, unitAt, segmentsAt, segments, managements, segmentAt, publics, flag, pinAt, sound, soundness, placeOf}
+use Rattle.rules.specs.Map.{most, unitAt, segmentsAt, segments, managements, segmentAt, publics, flag, pinAt, sound, soundness}
 use Rattle.rules.specs.Claims.{Sizes}
 use Rattle.rules.proofs.Tests.{all-true, all-and, all-none}
 use Rattle.rules.proofs.BytesLaws.{Apart, part-put, byte-put-out, byte-put, length-put}
@@ -73,10 +73,6 @@ publics-put a bs t h = ap number (part-put 2 2 a bs t (λ i p q u v. h i p q (om
 pub flag-put : (a : ℕ) (bs t : List ℕ) → Apart a (length bs) 12 4 → flag (put a bs t) ≡ flag t
 unfolding flag
 flag-put a bs t h = byte-put-out a bs t 12 (λ p q. h 12 p q (omega arith) (omega arith))
-
-pub placeOf-put : (x : ℕ) (ys t : List ℕ) (a n : ℕ) → Apart x (length ys) 0 4 → placeOf (put x ys t) a n ≡ placeOf t a n
-unfolding placeOf
-placeOf-put x ys t a n h = rw (segments-put x ys t h, publics-put x ys t h)
 
 -- ---- soundness after a store: elsewhere, and at the flag
 

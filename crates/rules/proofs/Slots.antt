@@ -14,7 +14,7 @@ use borrow.Author.Tests.{eqb-true, eq-eqb, ne-eqb}
 use Rattle.rules.specs.declared.Place.{Place}
 use Rattle.rules.specs.declared.Place.the-variants.{Segment}
 use Rattle.rules.specs.Bytes.{part, number, put}
-use Rattle.rules.specs.Map.{segmentAt, segments, sound, slotAt, counter}
+use Rattle.rules.specs.Map.{segmentAt, segments, sound, slotAt}
 use Rattle.rules.specs.Units.{unitBytes, unitOf}
 use Rattle.rules.specs.State.{Cipher, State}
 use Rattle.rules.specs.Refusals.{lowest, writeChecks}

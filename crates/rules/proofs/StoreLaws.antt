@@ -5,7 +5,7 @@ use mathlib.Core.List.{List, [], _∷_}
 use lib.ListN.{length}
 use Rattle.rules.specs.Bytes.{part, put}
 use Rattle.rules.specs.Effects.{Store, _↤_, apply}
-use Rattle.rules.proofs.BytesLaws.{Apart, length-put, part-put, put-comm}
+use Rattle.rules.proofs.BytesLaws.{Apart, part-put, put-comm}
 
 abbrev pub Each : (Store → Type 0) → List Store → Type 0
 Each P [] = Unit {0}
@@ -18,11 +18,6 @@ each-map P Q ((x ↤ ys) ∷ ss) f h = (f x ys (h .0), each-map P Q ss f (h .1))
 -- a store that touches none of the n bytes at x
 abbrev pub Off : ℕ → ℕ → Store → Type 0
 Off x n (a ↤ bs) = Apart a (length bs) x n
-
-pub apply-length : (ss : List Store) (t : List ℕ) → length (apply ss t) ≡ length t
-unfolding apply
-apply-length [] t = refl
-apply-length ((a ↤ bs) ∷ ss) t = apply-length ss (put a bs t) ∙ length-put a bs t
 
 pub apply-part : (x n : ℕ) (ss : List Store) (t : List ℕ) → Each (Off x n) ss → part x n (apply ss t) ≡ part x n t
 unfolding apply

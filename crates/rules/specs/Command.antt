@@ -2,18 +2,18 @@
 -- answers are". Assumes nothing.
 use Prim.Native.Nat.{ℕ}
 use mathlib.Core.Bool.{true, not}
-use mathlib.Core.List.{List, [], _∷_}
+use mathlib.Core.List.{List, []}
 use mathlib.Core.Option.{Option, none, some}
 use lib.ListN.{length}
 use lib.Dec.{eqb, ltb}
-use Rattle.rules.specs.declared.Place.{Place}
 use Rattle.rules.specs.declared.Session.{Session}
+use Rattle.rules.specs.declared.Place.{Place}
 use Rattle.rules.specs.Bytes.{part, put}
-use Rattle.rules.specs.Map.{segments, sound, placeOf}
+use Rattle.rules.specs.Map.{sound, placeOf, segments}
 use Rattle.rules.specs.Units.{unitBytes}
-use Rattle.rules.specs.State.{State, Cipher, poweredUp}
-use Rattle.rules.specs.Refusals.{Checks, granted, _when_else_, lowest, readChecks, writeChecks, advanceChecks}
-use Rattle.rules.specs.Effects.{Store, apply, writeStores, writeSession, advanceStores, refusalStores}
+use Rattle.rules.specs.State.{Cipher, State, poweredUp}
+use Rattle.rules.specs.Refusals.{Checks, _when_else_, granted, readChecks, writeChecks, advanceChecks, lowest}
+use Rattle.rules.specs.Effects.{Store, writeStores, writeSession, advanceStores, apply, refusalStores}
 
 -- `room` is the length of the output that a read is given
 pub data Command : Type 0 where

@@ -9,13 +9,13 @@ use lib.ListN.{length}
 use lib.Dec.{eqb}
 use Rattle.rules.specs.declared.Model.the-variants.{Counter}
 use Rattle.rules.specs.declared.Stop.the-variants.{End}
-use Rattle.rules.specs.Bytes.{part, number}
-use Rattle.rules.specs.Map.{segments, publics, segmentAt, slotAt}
-use Rattle.rules.specs.Units.{unitBytes, unitOf, wellFormed}
-use Rattle.rules.specs.State.{State, Cipher}
-use Rattle.rules.specs.Command.{Command, read, write, advance, powerUp, Reply, done, gives, refused, reply, after}
+use Rattle.rules.specs.Bytes.{number, part}
+use Rattle.rules.specs.Map.{segments, slotAt, publics, segmentAt}
+use Rattle.rules.specs.Units.{wellFormed, unitBytes, unitOf}
+use Rattle.rules.specs.State.{Cipher, State}
+use Rattle.rules.specs.Command.{Command, Reply, read, write, done, gives, refused, advance, powerUp, after, reply}
 use Rattle.rules.specs.Run.{final, replies}
-use Rattle.rules.specs.Log.{Run, commands, encoded, encodedAll, runLog}
+use Rattle.rules.specs.Log.{runLog, encodedAll, encoded, commands}
 
 -- ---- counter segments and their slots
 

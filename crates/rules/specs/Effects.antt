@@ -5,19 +5,18 @@ use mathlib.Core.Bool.{cond}
 use mathlib.Core.List.{List, [], _∷_}
 use lib.ListN.{length}
 use lib.Dec.{eqb}
-use Rattle.rules.specs.declared.Stage.{Stage}
+use Rattle.rules.specs.declared.Session.{Session}
 use Rattle.rules.specs.declared.Stage.the-variants.{Zero, One, Two}
 use Rattle.rules.specs.declared.Model.{Model}
 use Rattle.rules.specs.declared.Model.the-variants.{Default, WriteOnce, Counter, Receiver}
 use Rattle.rules.specs.declared.Register.{Register}
-use Rattle.rules.specs.declared.Register.the-variants.{Read, Write, Edit, Name, Id, Commit, Pa}
+use Rattle.rules.specs.declared.Register.the-variants.{Write, Read, Edit, Name, Id, Commit, Pa}
 use Rattle.rules.specs.declared.Place.{Place}
 use Rattle.rules.specs.declared.Place.the-variants.{Header, Hidden, RegisterOf, Pins, Readers, UnitOf, Spare, Segment, Public}
-use Rattle.rules.specs.declared.Session.{Session}
-use Rattle.rules.specs.Bytes.{byte, part, put, xor}
-use Rattle.rules.specs.Map.{pinAt, unitAt}
-use Rattle.rules.specs.Units.{unitBytes, unitOf}
-use Rattle.rules.specs.State.{State, withRead, withWrite, withEdit, withName, withId, withPa, pinIndex, ownerIndex, pin, owner, Cipher, response}
+use Rattle.rules.specs.Bytes.{put, xor, byte, part}
+use Rattle.rules.specs.Map.{unitAt, pinAt}
+use Rattle.rules.specs.Units.{unitOf, unitBytes}
+use Rattle.rules.specs.State.{Cipher, State, pin, pinIndex, response, owner, ownerIndex, withRead, withWrite, withEdit, withName, withId, withPa}
 
 infix 68 _↤_
 pub data Store : Type 0 where

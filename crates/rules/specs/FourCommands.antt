@@ -5,11 +5,11 @@ use mathlib.Core.Path.{_≡_}
 use mathlib.Core.Bool.{true, false}
 use mathlib.Core.List.{List, [], _∷_, _++_}
 use lib.ListN.{length}
-use Rattle.rules.specs.Bytes.{part, bytesOf}
-use Rattle.rules.specs.Map.{segments, counter, registerAt, segmentAt, sound}
-use Rattle.rules.specs.Units.{unitBytes, unitOf, wellFormed}
-use Rattle.rules.specs.State.{State, Cipher, pin, encipheredCounter}
-use Rattle.rules.specs.Command.{Command, read, write, Reply, done, gives}
+use Rattle.rules.specs.Bytes.{bytesOf, part}
+use Rattle.rules.specs.Map.{registerAt, counter, sound, segments, segmentAt}
+use Rattle.rules.specs.Units.{wellFormed, unitBytes, unitOf}
+use Rattle.rules.specs.State.{Cipher, encipheredCounter, pin, State}
+use Rattle.rules.specs.Command.{Command, write, read, done, gives}
 use Rattle.rules.specs.Run.{replies}
 
 -- The host names PIN index i in PA, the rest of which is any 14 bytes; writes the counter plus one; writes the response by the PIN

@@ -7,9 +7,9 @@ use lib.ListN.{length}
 use lib.Dec.{eqb, leb}
 use Rattle.rules.specs.declared.Stop.{Stop}
 use Rattle.rules.specs.declared.Stop.the-variants.{End, BadCommand, OutputFull}
-use Rattle.rules.specs.Bytes.{part, number}
+use Rattle.rules.specs.Bytes.{number, part}
 use Rattle.rules.specs.State.{State, Cipher}
-use Rattle.rules.specs.Command.{Command, read, write, advance, powerUp, Reply, done, gives, refused, reply, after}
+use Rattle.rules.specs.Command.{advance, read, write, Command, powerUp, Reply, done, gives, refused, reply, after}
 
 -- ---- "One byte of kind, then a body whose length the kind fixes"
 

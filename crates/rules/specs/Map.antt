@@ -9,7 +9,7 @@ use Rattle.rules.specs.declared.Register.{Register}
 use Rattle.rules.specs.declared.Register.the-variants.{Read, Write, Edit, Name, Id, Commit, Pa}
 use Rattle.rules.specs.declared.Place.{Place}
 use Rattle.rules.specs.declared.Place.the-variants.{Header, Hidden, RegisterOf, Pins, Readers, UnitOf, Spare, Segment, Public}
-use Rattle.rules.specs.Bytes.{byte, part, number, zeros, all}
+use Rattle.rules.specs.Bytes.{number, part, byte, zeros, all}
 
 -- ---- the header: "A (2), P (2), roll-back counter (8), usage flag (1), three zeros"
 

@@ -6,19 +6,18 @@ use mathlib.Core.List.{List, [], _∷_}
 use mathlib.Core.Option.{Option, none, some}
 use lib.ListN.{length}
 use lib.Dec.{eqb, leb, ltb}
-use Rattle.rules.specs.declared.Stage.{Stage}
+use Rattle.rules.specs.declared.Session.{Session}
 use Rattle.rules.specs.declared.Stage.the-variants.{Zero, One, Two}
 use Rattle.rules.specs.declared.Model.{Model}
 use Rattle.rules.specs.declared.Model.the-variants.{Default, WriteOnce, Counter, Receiver}
 use Rattle.rules.specs.declared.Register.{Register}
-use Rattle.rules.specs.declared.Register.the-variants.{Read, Write, Edit, Name, Id, Commit, Pa}
+use Rattle.rules.specs.declared.Register.the-variants.{Write, Read, Edit, Name, Id, Commit, Pa}
 use Rattle.rules.specs.declared.Place.{Place}
 use Rattle.rules.specs.declared.Place.the-variants.{Header, Hidden, RegisterOf, Pins, Readers, UnitOf, Spare, Segment, Public}
-use Rattle.rules.specs.declared.Session.{Session}
-use Rattle.rules.specs.Bytes.{byte, part, put, number, same, all}
-use Rattle.rules.specs.Map.{segments, counter, flag, unitAt, segmentAt}
-use Rattle.rules.specs.Units.{unitBytes, modelled, unitOf, nameOf, wellFormed}
-use Rattle.rules.specs.State.{State, pinIndex, ownerIndex, guard, pin, owner, Cipher, response}
+use Rattle.rules.specs.Bytes.{number, part, same, all, byte, put}
+use Rattle.rules.specs.Map.{flag, unitAt, segmentAt, segments}
+use Rattle.rules.specs.Units.{wellFormed, unitOf, nameOf, modelled, unitBytes}
+use Rattle.rules.specs.State.{pin, response, Cipher, State, pinIndex, owner, ownerIndex, guard}
 
 -- ---- the table's numbers, each with when it is given, in ascending order
 

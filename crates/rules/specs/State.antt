@@ -3,8 +3,8 @@ use Prim.Native.Nat.{ℕ}
 use mathlib.Core.List.{List, _++_}
 use lib.ListN.{replicate}
 use Rattle.rules.specs.declared.Session.{Session}
-use Rattle.rules.specs.Bytes.{part, number}
-use Rattle.rules.specs.Map.{ownerAt, pinAt}
+use Rattle.rules.specs.Bytes.{number, part}
+use Rattle.rules.specs.Map.{pinAt, ownerAt}
 
 -- ---- "The session .. : validated read, write and edit indexes, and the 16-byte name, ID and PA arrays."
 -- Only power-up and the six functions below it name every part of a session.

@@ -1,6 +1,6 @@
 -- Document 01, "The unit". A unit is 32 bytes `u`. Assumes nothing.
-use Prim.Native.Nat.{ℕ, zero, suc, _+_, _-_, _/_, _%_, _^_}
-use mathlib.Core.Bool.{Bool, true, false, _&&_, _||_, not, cond}
+use Prim.Native.Nat.{ℕ, zero, suc, _/_, _%_, _^_}
+use mathlib.Core.Bool.{Bool, false, _&&_, _||_, not, cond}
 use mathlib.Core.List.{List, [], _∷_}
 use lib.Dec.{eqb, leb}
 use Rattle.rules.specs.declared.Stage.{Stage}
@@ -8,7 +8,7 @@ use Rattle.rules.specs.declared.Stage.the-variants.{Zero, One, Two}
 use Rattle.rules.specs.declared.Model.{Model}
 use Rattle.rules.specs.declared.Model.the-variants.{Default, WriteOnce, Counter, Receiver}
 use Rattle.rules.specs.declared.Unit.{Unit}
-use Rattle.rules.specs.Bytes.{byte, part, number, zeros, all}
+use Rattle.rules.specs.Bytes.{part, byte, number, zeros, all}
 use Rattle.rules.specs.Map.{unitAt}
 
 -- the unit of segment k

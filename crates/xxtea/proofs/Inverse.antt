@@ -133,13 +133,42 @@ module _ (key : List ℕ) (n : ℕ) (two : 2 ≤ n) where
       let s = pass-kept (Block n) (rounds d) (rounds (opposite d)) d (roundsFor n) kept ws b .size in
       rw (b .size, s) (pass-undone (Block n) (rounds d) (rounds (opposite d)) d (roundsFor n) kept (λ r v l k. round-undone d (sumIn (r + 1)) v k) ws b)
 
+  crypted-block : (d : Direction) (ws : List ℕ) → Block n ws → Block n (crypted d key ws)
+  unfolding crypted
+  crypted-block d ws b =
+      rw (b .size) (pass-kept (Block n) (rounds d) (rounds (opposite d)) d (roundsFor n) (crypted-kept d (roundsFor n)) ws b)
+
+-- words stay words
+pub crypted-words : (d : Direction) (key ws : List ℕ) → 2 ≤ length ws → Words ws → Words (crypted d key ws)
+crypted-words d key ws two words = crypted-block key (length ws) two d ws (record { size = refl; words = words }) .words
+
+-- and as many, whatever the list holds
+module _ (d : Direction) (key : List ℕ) (n : ℕ) where
+  Long : List ℕ → Type 0
+  Long ws = length ws ≡ n
+
+  step-length : (sum p : ℕ) (ws : List ℕ) → Long ws → Long (step d key sum p ws)
+  unfolding step Long
+  step-length sum p ws e = length-set ws p _ ∙ e
+
+  round-length : (sum : ℕ) (ws : List ℕ) → Long ws → Long (round d key sum ws)
+  unfolding round Kept
+  round-length sum ws e =
+      pass-kept Long (step d key sum) (λ p v. v) d (length ws) (λ p v l k. step-length sum p v k) ws e
+
+pub crypted-length : (d : Direction) (key ws : List ℕ) → length (crypted d key ws) ≡ length ws
+unfolding crypted Kept Long
+crypted-length d key ws =
+    pass-kept (Long d key (length ws)) (λ r. round d key (sumIn (r + 1))) (λ r v. v) d (roundsFor (length ws))
+    (λ r v l e. round-length d key (length ws) (sumIn (r + 1)) v e) ws refl
+
 -- a refused list gets no round
 pub refused-unchanged : RefusedUnchanged
 unfolding crypted pass
 refused-unchanged up key ws e = rw (rounds-taken (length ws) false e)
 refused-unchanged down key ws e = rw (rounds-taken (length ws) false e)
 
-undone : (d : Direction) (key ws : List ℕ) → Words ws → crypted (opposite d) key (crypted d key ws) ≡ ws
+pub undone : (d : Direction) (key ws : List ℕ) → Words ws → crypted (opposite d) key (crypted d key ws) ≡ ws
 undone d key ws words = go (taken (length ws)) refl
   where
     go : (t : Bool) → taken (length ws) ≡ t → crypted (opposite d) key (crypted d key ws) ≡ ws

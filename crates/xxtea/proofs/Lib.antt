@@ -2,3 +2,4 @@
 pub mod Laws
 mod Walk
 pub mod Inverse
+pub mod Block

@@ -1,3 +1,4 @@
 -- The root of the cipher's definitions.
 pub mod Xxtea
+pub mod Block
 pub mod Claims
