@@ -13,7 +13,7 @@ use Rattle.rules.specs.Map.{sound, segments}
 use Rattle.rules.specs.State.{State, Cipher}
 use Rattle.rules.specs.Command.{Command, write, after, refusal, replyBy, reply, grant, done, refused, Reply, gives}
 use Rattle.rules.specs.Run.{replies, final}
-use Rattle.rules.specs.Demand3.{slot, LockedCounter, valueAt, WritesLockedSlot, writes-slot, withGranted, Entry, CopiesOfGranted, AllRefused, copy, copyReplies, withCopies, ownReplies, own, withoutCopies, none-left, one-more}
+use Rattle.rules.specs.Demand3.{slot, LockedCounter, valueAt, WritesLockedSlot, writes-slot, withGranted, Entry, CopiesOfGranted, AllRefused, copyReplies, copy, withCopies, own, ownReplies, withoutCopies, none-left, one-more}
 use Rattle.rules.specs.Claims.{Holds}
 use Rattle.rules.proofs.Places.{segment-holds, controlled}
 use Rattle.rules.proofs.Grants.{reply-is}
@@ -24,7 +24,8 @@ use Rattle.rules.proofs.Segments.{ranged-not-11, a-write}
 
 -- c writes a value that a slot of a locked counter segment has reached already
 data Spent (s : State) (c : Command) : Type 0 where
-  spent : (k j : ℕ) (bs : List ℕ) → c ≡ write (slot (s .tag) k j) bs → LockedCounter (s .tag) k → j < 512 → length bs ≡ 8
+  spent : (k j : ℕ) (bs : List ℕ) → c ≡ write (slot (s .tag) k j) bs → LockedCounter (s .tag) k → j < 512
+      → length bs ≡ 8
       → number bs ≤ valueAt (slot (s .tag) k j) (s .tag) → Spent s c
 
 -- it stays so
@@ -35,7 +36,8 @@ spent-stays E s d c w (spent k j bs e lc l n h) =
     spent k j bs (rw g e) (locked-stays E s k d w lc) l n (rw g (omega arith))
 
 -- a granted write to a slot is spent
-spent-made : (E : Cipher) (s : State) (k j : ℕ) (bs : List ℕ) → sound (s .tag) ≡ true → LockedCounter (s .tag) k → j < 512
+spent-made : (E : Cipher) (s : State) (k j : ℕ) (bs : List ℕ) → sound (s .tag) ≡ true → LockedCounter (s .tag) k
+    → j < 512
     → length bs ≡ 8 → refusal E s (write (slot (s .tag) k j) bs) ≡ none
     → Spent (after E s (write (slot (s .tag) k j) bs)) (write (slot (s .tag) k j) bs)
 unfolding replyBy grant
@@ -80,7 +82,8 @@ granted-spent : (E : Cipher) (t : List ℕ) (s : State) (before : List Command) 
 granted-spent E t s before r c (writes-slot k j bs lc l n) e =
     rw (← (r .same-segments)) (spent-made E s k j bs (r .whole) (r .still-locked k lc) l n (rw (r .same-segments) e))
 
-with-granted : (E : Cipher) (t : List ℕ) (s : State) (before : List Command) → Reached t s before → (d : Command) (r : Option ℕ)
+with-granted : (E : Cipher) (t : List ℕ) (s : State) (before : List Command) → Reached t s before
+    → (d : Command) (r : Option ℕ)
     → refusal E s d ≡ r → (c : Command) → List·Memᴰ c (withGranted (replyBy r s d) d before) → WritesLockedSlot t c
     → Spent (after E s d) c
 unfolding withGranted replyBy
@@ -125,7 +128,8 @@ copies-from E t s before (copy c ∷ es) r h =
       ap (λ z. final E z (withCopies es)) (y .2) ∙ x .2,
     )
 
-pub copies-hold : (E : Cipher) (s : State) (es : List Entry) → sound (s .tag) ≡ true → CopiesOfGranted E (s .tag) s [] es
+pub copies-hold : (E : Cipher) (s : State) (es : List Entry) → sound (s .tag) ≡ true
+    → CopiesOfGranted E (s .tag) s [] es
     → AllRefused (copyReplies es (replies E s (withCopies es)))
     × (ownReplies es (replies E s (withCopies es)) ≡ replies E s (withoutCopies es))
     × (final E s (withCopies es) ≡ final E s (withoutCopies es))

@@ -13,13 +13,16 @@ use Rattle.rules.specs.Demand3.{LockedCounter, slot, valueAt, grants, co
 use Rattle.rules.proofs.Lawful.{sound-stays}
 use Rattle.rules.proofs.Slots.{locked-stays, slot-counts}
 
-pub final-sound : (E : Cipher) (s : State) (cs : List Command) → sound (s .tag) ≡ true → sound (final E s cs .tag) ≡ true
+pub final-sound : (E : Cipher) (s : State) (cs : List Command) → sound (s .tag) ≡ true
+    → sound (final E s cs .tag) ≡ true
 unfolding final
 final-sound E s [] w = w
 final-sound E s (c ∷ cs) w = final-sound E (after E s c) cs (sound-stays E s c w .stays-sound)
 
-pub counting-holds : (E : Cipher) (s : State) (cs : List Command) (k j x : ℕ) → sound (s .tag) ≡ true → LockedCounter (s .tag) k
-    → j < 512 → x ≡ slot (s .tag) k j → valueAt x (final E s cs .tag) ≡ valueAt x (s .tag) + grants x cs (replies E s cs)
+pub counting-holds : (E : Cipher) (s : State) (cs : List Command) (k j x : ℕ) → sound (s .tag) ≡ true
+    → LockedCounter (s .tag) k
+    → j < 512 → x ≡ slot (s .tag) k j
+    → valueAt x (final E s cs .tag) ≡ valueAt x (s .tag) + grants x cs (replies E s cs)
 unfolding final replies grants
 counting-holds E s [] k j x w lc l e = sym (add-zero _)
 counting-holds E s (c ∷ cs) k j x w lc l e =

@@ -129,7 +129,8 @@ record Separate (t : List ℕ) (p : Place) (a n : ℕ) (q : Place) (x m : ℕ) :
       → Apart (unitAt k) 1 (unitAt l) 32
 
 -- so the second looks at the same after the first
-separate-looks : (E : Cipher) (s : State) (k a n : ℕ) (p : Place) (c : Command) (q : Place) (x m : ℕ) → sound (s .tag) ≡ true
+separate-looks : (E : Cipher) (s : State) (k a n : ℕ) (p : Place) (c : Command) (q : Place) (x m : ℕ)
+    → sound (s .tag) ≡ true
     → Inner (s .tag) k a n p c → unitAt 0 ≤ x → Separate (s .tag) p a n q x m → Looks (s .tag) (after E s c .tag) q x m
 unfolding unitBytes
 separate-looks E s k a n p c q x m w i b z =
@@ -151,7 +152,8 @@ separate-looks E s k a n p c q x m w i b z =
     }
 
 -- and their stores touch nothing in common
-stores-apart : (t : List ℕ) (a n x m : ℕ) (p q : Place) (rs ss : List Store) → Each (Lawful t p a n) rs → Each (Lawful t q x m) ss
+stores-apart : (t : List ℕ) (a n x m : ℕ) (p q : Place) (rs ss : List Store) → Each (Lawful t p a n) rs
+    → Each (Lawful t q x m) ss
     → 5 ≤ sort q → unitAt 0 ≤ x → Separate t p a n q x m → Each (OffStores rs) ss
 stores-apart t a n x m p q rs ss f g o b z = each-map (Lawful t q x m) (OffStores rs) ss at-each g
   where
@@ -188,7 +190,8 @@ module _ (E : Cipher) (s : State) (k a n l x m : ℕ) (p q : Place) (c d : Comma
   ends-in =
       ap (λ r. after E r d) next-is
       ∙ after-is E next l x m q (looks .still-whole)
-      (rw (looks .same-segments, looks .same-publics) (j .number-is)) (rw (looks .same-segments, looks .same-publics) (j .held)) d (j .ranged)
+      (rw (looks .same-segments, looks .same-publics) (j .number-is))
+      (rw (looks .same-segments, looks .same-publics) (j .held)) d (j .ranged)
       ∙ ap (λ ss. record { tag = apply ss (next .tag); session = s .session })
       (made-same E (s .session) (s .tag) (next .tag) l x m q (j .number-is) (j .held) looks d (j .ranged))
 
@@ -203,12 +206,14 @@ sort-above : (A P k : ℕ) (p : Place) → Numbered A P k p → 5 ≤ sort p
 sort-above A P k p (controlled h) = omega arith
 sort-above A P k p (open-to-all l e h) = omega arith
 
-inner-above : (t : List ℕ) (k a n : ℕ) (p : Place) → sound t ≡ true → Numbered (segments t) (publics t) k p → Holds t p a n → unitAt 0 ≤ a
+inner-above : (t : List ℕ) (k a n : ℕ) (p : Place) → sound t ≡ true → Numbered (segments t) (publics t) k p
+    → Holds t p a n → unitAt 0 ≤ a
 inner-above t k a n p w (controlled h) g = let x = placed t p a n w g in let y = sound-long t w .0 in omega arith
 inner-above t k a n p w (open-to-all l e h) g = let x = placed t p a n w g in let y = sound-long t w .0 in omega arith
 
 exchanged : (E : Cipher) (s : State) (c d : Command) (k a n l x m : ℕ) (p q : Place) → sound (s .tag) ≡ true
-    → Inner (s .tag) k a n p c → Inner (s .tag) l x m q d → Separate (s .tag) p a n q x m → Separate (s .tag) q x m p a n
+    → Inner (s .tag) k a n p c → Inner (s .tag) l x m q d → Separate (s .tag) p a n q x m
+    → Separate (s .tag) q x m p a n
     → Exchanged E s c d
 exchanged E s c d k a n l x m p q w i j z z′ =
     let above-c = inner-above (s .tag) k a n p w (i .number-is) (i .held) in
@@ -228,7 +233,8 @@ exchanged E s c d k a n l x m p q w i j z z′ =
 -- ---- when they are separate: the ranges are, and no unit is both moved by one and looked at by the other
 
 -- a segment's bytes and a unit share none
-unit-apart : (t : List ℕ) (k i a n : ℕ) (p : Place) → sound t ≡ true → Numbered (segments t) (publics t) k p → Holds t p a n
+unit-apart : (t : List ℕ) (k i a n : ℕ) (p : Place) → sound t ≡ true → Numbered (segments t) (publics t) k p
+    → Holds t p a n
     → i < segments t → Apart a n (unitAt i) 32
 unit-apart t k i a n p w (controlled h) g b =
     places-apart t p (UnitOf i) a n (unitAt i) 32 w g (unit-holds t i b) (other-sort p (UnitOf i) (omega arith))
@@ -240,7 +246,8 @@ number-of : (A P k i : ℕ) (p : Place) → Numbered A P k p → p ≡ Segment i
 number-of A P k i p (controlled h) e = let q : i ≡ k = cc in (q, omega arith)
 number-of A P k i p (open-to-all l f h) e = absurd (other-sort (Public l) (Segment i) (omega arith) e)
 
-separate : (t : List ℕ) (k a n l x m : ℕ) (p q : Place) (c d : Command) → sound t ≡ true → Inner t k a n p c → Inner t l x m q d
+separate : (t : List ℕ) (k a n l x m : ℕ) (p q : Place) (c d : Command) → sound t ≡ true → Inner t k a n p c
+    → Inner t l x m q d
     → Apart a n x m → (unitOf (unitBytes t k) .model ≡ WriteOnce → k ≢ l) → Separate t p a n q x m
 separate t k a n l x m p q c d w i j range other =
     record {
@@ -262,9 +269,11 @@ inner t k a n c h b e r =
     (x .0, record { number-is = x .1; held = segment-holds t k a n (x .0) (x .1) b e; ranged = r })
 
 both : (E : Cipher) (s : State) (c d : Command) (k a n l x m : ℕ) → sound (s .tag) ≡ true
-    → k < segments (s .tag) + publics (s .tag) → segmentAt (segments (s .tag)) k ≤ a → a + n ≤ segmentAt (segments (s .tag)) k + 4096
+    → k < segments (s .tag) + publics (s .tag) → segmentAt (segments (s .tag)) k ≤ a
+    → a + n ≤ segmentAt (segments (s .tag)) k + 4096
     → Ranged a n c
-    → l < segments (s .tag) + publics (s .tag) → segmentAt (segments (s .tag)) l ≤ x → x + m ≤ segmentAt (segments (s .tag)) l + 4096
+    → l < segments (s .tag) + publics (s .tag) → segmentAt (segments (s .tag)) l ≤ x
+    → x + m ≤ segmentAt (segments (s .tag)) l + 4096
     → Ranged x m d
     → Apart a n x m → (k ≡ l → unitOf (unitBytes (s .tag) k) .model ≢ WriteOnce) → Exchanged E s c d
 both E s c d k a n l x m w hk bk ek rc hl bl el rd range other =
@@ -284,14 +293,16 @@ inside-range t k (write a bs) h = (a, length bs, a-write bs refl, h .1, h .2, h 
 inside-range t k (advance n) h = absurd h
 inside-range t k powerUp h = absurd h
 
-exchange : (E : Cipher) (s : State) (c d : Command) → sound (s .tag) ≡ true → MayChangePlaces (s .tag) c d → Exchanged E s c d
+exchange : (E : Cipher) (s : State) (c d : Command) → sound (s .tag) ≡ true → MayChangePlaces (s .tag) c d
+    → Exchanged E s c d
 exchange E s c d w (two-segments k l q hc hd) =
     let x = inside-range (s .tag) k c hc in
     let y = inside-range (s .tag) l d hd in
     both E s c d k (x .0) (x .1) l (y .0) (y .1) w (x .5) (x .3) (x .4) (x .2) (y .5) (y .3) (y .4) (y .2)
     (segments-apart (x .0) (x .1) (y .0) (y .1) (x .3) (x .4) (y .3) (y .4)) (λ e. absurd (q e))
   where
-    segments-apart : (a n x m : ℕ) → segmentAt (segments (s .tag)) k ≤ a → a + n ≤ segmentAt (segments (s .tag)) k + 4096
+    segments-apart : (a n x m : ℕ) → segmentAt (segments (s .tag)) k ≤ a
+        → a + n ≤ segmentAt (segments (s .tag)) k + 4096
         → segmentAt (segments (s .tag)) l ≤ x → x + m ≤ segmentAt (segments (s .tag)) l + 4096 → Apart a n x m
     segments-apart a n x m b e f g = omega arith
 exchange E s c d w (two-slots k i j bs ds h q b b′ n n′) =
@@ -304,7 +315,8 @@ exchange E s c d w (two-slots k i j bs ds h q b b′ n n′) =
 
 -- ---- in a list
 
-replies-append : (E : Cipher) (s : State) (cs ds : List Command) → replies E s (cs ++ ds) ≡ replies E s cs ++ replies E (final E s cs) ds
+replies-append : (E : Cipher) (s : State) (cs ds : List Command)
+    → replies E s (cs ++ ds) ≡ replies E s cs ++ replies E (final E s cs) ds
 unfolding replies final
 replies-append E s [] ds = refl
 replies-append E s (c ∷ cs) ds = ap {B = List Reply} (λ rs. reply E s c ∷ rs) (replies-append E (after E s c) cs ds)
@@ -314,7 +326,8 @@ unfolding final
 final-append E s [] ds = refl
 final-append E s (c ∷ cs) ds = final-append E (after E s c) cs ds
 
-pub neighbours-hold : (E : Cipher) (s : State) (before later : List Command) (c d : Command) → sound (final E s before .tag) ≡ true
+pub neighbours-hold : (E : Cipher) (s : State) (before later : List Command) (c d : Command)
+    → sound (final E s before .tag) ≡ true
     → MayChangePlaces (final E s before .tag) c d
     → (rs : List Reply)
     × (replies E s (before ++ c ∷ d ∷ later)

@@ -73,7 +73,8 @@ counter-written E s next w l e =
 
 -- ---- 3. READ
 
-read-validated : (E : Cipher) (s : State) (bs : List ℕ) (i : ℕ) → sound (s .tag) ≡ true → length bs ≡ 16 → flag (s .tag) ≡ 0
+read-validated : (E : Cipher) (s : State) (bs : List ℕ) (i : ℕ) → sound (s .tag) ≡ true → length bs ≡ 16
+    → flag (s .tag) ≡ 0
     → pinIndex (s .session) ≡ i → i ≤ 255 → bs ≡ response E (pin (s .tag) i) (s .tag)
     → (reply E s (write (registerAt 0) bs) ≡ done)
     × (after E s (write (registerAt 0) bs) ≡ record { tag = put 12 (1 ∷ []) (s .tag); session = withRead i (s .session) })
@@ -108,7 +109,8 @@ rights s k a n f r p i =
     index : (unitOf (unitBytes (s .tag) k) .rdpin && not (eqb (s .session .read) (unitOf (unitBytes (s .tag) k) .read))) ≡ false
     index = ap (λ b. unitOf (unitBytes (s .tag) k) .rdpin && not b) (eq-eqb _ _ i) ∙ and-no (unitOf (unitBytes (s .tag) k) .rdpin)
 
-read-granted : (E : Cipher) (s : State) (k a n room : ℕ) → sound (s .tag) ≡ true → k < segments (s .tag) → 1 ≤ n → n ≤ room
+read-granted : (E : Cipher) (s : State) (k a n room : ℕ) → sound (s .tag) ≡ true → k < segments (s .tag) → 1 ≤ n
+    → n ≤ room
     → segmentAt (segments (s .tag)) k ≤ a → a + n ≤ segmentAt (segments (s .tag)) k + 4096
     → lowest (readChecks s (Segment k) a n) ≡ none → reply E s (read a n room) ≡ gives (part a n (s .tag))
 unfolding reply replyBy grant
@@ -144,7 +146,8 @@ away next t a n l h =
     let e = part-put a n 12 (0 ∷ []) (put 4 next t) (omega arith) ∙ part-put a n 4 next t (omega arith) in
     (e, part-put a n 12 (1 ∷ []) (countedUp next t) (omega arith) ∙ e)
 
-fourth : (E : Cipher) (t next : List ℕ) (v : Session) (k a n room : ℕ) → sound t ≡ true → length next ≡ 8 → k < segments t
+fourth : (E : Cipher) (t next : List ℕ) (v : Session) (k a n room : ℕ) → sound t ≡ true → length next ≡ 8
+    → k < segments t
     → wellFormed (unitBytes t k) ≡ true → unitOf (unitBytes t k) .rd ≡ true → unitOf (unitBytes t k) .pn ≡ false
     → v .read ≡ unitOf (unitBytes t k) .read
     → 1 ≤ n → n ≤ room → segmentAt (segments t) k ≤ a → a + n ≤ segmentAt (segments t) k + 4096

@@ -1,4 +1,5 @@
--- Where commands store: at the counter, the flag, a PIN but the first, the written bytes, or a unit's own. So a sound tag stays sound.
+-- Where commands store: at the counter, the flag, a PIN but the first, the written bytes, or a unit's own. So a sound
+-- tag stays sound.
 use Prim.Native.Nat.{ℕ, _≤_, _<_}
 use mathlib.Core.Path.{_≡_, refl, sym, ap, subst, _∙_}
 use mathlib.Core.Bool.{Bool, true, false, cond}
@@ -42,7 +43,8 @@ Lawful t p a n (x ↤ ys) = LawfulAt t p a n x ys
 
 -- ---- what the commands store is lawful
 
-register-lawful : (E : Cipher) (s : State) (r : Register) (a : ℕ) (bs : List ℕ) → lowest (registerChecks E s r bs) ≡ none
+register-lawful : (E : Cipher) (s : State) (r : Register) (a : ℕ) (bs : List ℕ)
+    → lowest (registerChecks E s r bs) ≡ none
     → Each (Lawful (s .tag) (RegisterOf r) a (length bs)) (registerStores E s r bs)
 unfolding registerStores
 register-lawful E s Read a bs e = (to-flag (omega arith) 1 (omega arith) refl refl, tt)
@@ -157,7 +159,8 @@ lawful-sound t p a n x ys u (to-pin o i l m e h) w = sound-put x ys u (omega ari
 lawful-sound t p a n x ys u (to-bytes b e h) w = sound-put x ys u (omega arith) (omega arith) (omega arith) ∙ w
 lawful-sound t p a n x ys u (to-unit k q o e h) w = sound-put x ys u (omega arith) (omega arith) (omega arith) ∙ w
 
-apply-sound : (t : List ℕ) (p : Place) (a n : ℕ) (ss : List Store) (u : List ℕ) → Each (Lawful t p a n) ss → sound u ≡ true
+apply-sound : (t : List ℕ) (p : Place) (a n : ℕ) (ss : List Store) (u : List ℕ) → Each (Lawful t p a n) ss
+    → sound u ≡ true
     → sound (apply ss u) ≡ true
 unfolding apply
 apply-sound t p a n [] u h w = w
@@ -189,16 +192,20 @@ sound-stays E s c w =
       readers-stay = kept-part E s c 8192 4096 w (λ p a n x ys l. lawful-apart (s .tag) p a n x ys l .2);
     }
 
--- they leave a part above the header and the PINs if the written bytes and, in a segment, the byte of its unit are elsewhere
-lawful-off : (t : List ℕ) (p : Place) (a n x : ℕ) (ys : List ℕ) (y m : ℕ) → LawfulAt t p a n x ys → unitAt 0 ≤ y → Apart a n y m
-    → ((k : ℕ) → p ≡ Segment k → unitOf (unitBytes t k) .model ≡ WriteOnce → Apart (unitAt k) 1 y m) → Apart x (length ys) y m
+-- they leave a part above the header and the PINs if the written bytes and, in a segment, the byte of its unit are
+-- elsewhere
+lawful-off : (t : List ℕ) (p : Place) (a n x : ℕ) (ys : List ℕ) (y m : ℕ) → LawfulAt t p a n x ys → unitAt 0 ≤ y
+    → Apart a n y m
+    → ((k : ℕ) → p ≡ Segment k → unitOf (unitBytes t k) .model ≡ WriteOnce → Apart (unitAt k) 1 y m)
+    → Apart x (length ys) y m
 lawful-off t p a n x ys y m (to-counter o e h) b f g = omega arith
 lawful-off t p a n x ys y m (to-flag o v h e q) b f g = let l = ap length q in omega arith
 lawful-off t p a n x ys y m (to-pin o i l j e h) b f g = omega arith
 lawful-off t p a n x ys y m (to-bytes c e h) b f g = λ i u v w z. f i (omega arith) (omega arith) w z
 lawful-off t p a n x ys y m (to-unit k q o e h) b f g = λ i u v w z. g k q o i (omega arith) (omega arith) w z
 
-pub stores-off : (t : List ℕ) (p : Place) (a n : ℕ) (ss : List Store) (y m : ℕ) → Each (Lawful t p a n) ss → unitAt 0 ≤ y
+pub stores-off : (t : List ℕ) (p : Place) (a n : ℕ) (ss : List Store) (y m : ℕ) → Each (Lawful t p a n) ss
+    → unitAt 0 ≤ y
     → Apart a n y m → ((k : ℕ) → p ≡ Segment k → unitOf (unitBytes t k) .model ≡ WriteOnce → Apart (unitAt k) 1 y m)
     → Each (Off y m) ss
 stores-off t p a n ss y m h b f g =
@@ -217,7 +224,8 @@ advance-off t k y m b f =
 -- a granted write
 pub write-off : (E : Cipher) (s : State) (p : Place) (a : ℕ) (bs : List ℕ) (y m : ℕ) → sound (s .tag) ≡ true
     → Holds (s .tag) p a (length bs) → lowest (writeChecks E s p a bs) ≡ none → unitAt 0 ≤ y → Apart a (length bs) y m
-    → ((k : ℕ) → p ≡ Segment k → k < segments (s .tag) → Apart (unitAt k) 1 y m) → Each (Off y m) (writeStores E s p a bs)
+    → ((k : ℕ) → p ≡ Segment k → k < segments (s .tag) → Apart (unitAt k) 1 y m)
+    → Each (Off y m) (writeStores E s p a bs)
 write-off E s p a bs y m w h e b f g =
     let x = placed (s .tag) p a (length bs) w h in
     stores-off (s .tag) p a (length bs) (writeStores E s p a bs) y m (write-lawful E s p a bs w x e) b f

@@ -32,7 +32,8 @@ abbrev Moves : List ℕ → List ℕ → Type 0
 Moves u w = (w ≡ u) ⊎ (w ≡ put 0 (ownMove (unitOf u .model) u) u)
 
 -- stores that touch no byte of it
-beside : (t : List ℕ) (k : ℕ) (ss : List Store) → Each (Off (unitAt k) 32) ss → Moves (unitBytes t k) (unitBytes (apply ss t) k)
+beside : (t : List ℕ) (k : ℕ) (ss : List Store) → Each (Off (unitAt k) 32) ss
+    → Moves (unitBytes t k) (unitBytes (apply ss t) k)
 unfolding unitBytes
 beside t k ss h = inl (apply-part (unitAt k) 32 ss t h)
 
@@ -62,9 +63,12 @@ module _ (E : Cipher) (s : State) (k : ℕ) (w : sound (s .tag) ≡ true) (there
   write-moves : (a : ℕ) (bs : List ℕ) (p : Place) → Holds (s .tag) p a (length bs)
       → lowest (writeChecks E s p a bs) ≡ none → (p ≡ Segment k) ⊎ (p ≢ Segment k)
       → Moves (unitBytes (s .tag) k) (unitBytes (apply (writeStores E s p a bs) (s .tag)) k)
+  unfolding writeStores
   write-moves a bs p h e (inl q) =
-      rw q (unfold writeStores in segment-moves (s .tag) k a _ _ refl
-      (rw (length-stored _ _ bs) (places-apart (s .tag) (Segment k) (UnitOf k) a (length bs) (unitAt k) 32 w (rw q at h) (unit-holds (s .tag) k there) (other-sort (Segment k) (UnitOf k) (omega arith)))))
+      let off : Apart a (length bs) (unitAt k) 32 =
+      places-apart (s .tag) p (UnitOf k) a (length bs) (unitAt k) 32 w h (unit-holds (s .tag) k there)
+      (λ f. other-sort (Segment k) (UnitOf k) (omega arith) (sym q ∙ f)) in
+      rw q (segment-moves (s .tag) k a _ _ refl (rw (length-stored _ _ bs) off))
   write-moves a bs p h e (inr q) =
       beside (s .tag) k (writeStores E s p a bs)
       (write-off E s p a bs (unitAt k) 32 w h e (omega arith)

@@ -65,7 +65,8 @@ unreadable-stops E s room {A} e = by (leb 2 room) e
     by false f = no-room f
 
 -- a command of a run to the end had room
-had-room : (E : Cipher) (s : State) (c : Command) (n : ℕ) (p : Parsed) (room : ℕ) → carriedOut E s (c taking n then p) room .stop ≡ End
+had-room : (E : Cipher) (s : State) (c : Command) (n : ℕ) (p : Parsed) (room : ℕ)
+    → carriedOut E s (c taking n then p) room .stop ≡ End
     → carriedOut E s (c taking n then p) room
     ≡ onward n (encoded (reply E s c)) (carriedOut E (after E s c) p (room - length (encoded (reply E s c))))
 unfolding carriedOut stopped
@@ -96,7 +97,8 @@ unfolding wholeOf
 body-fits none body c n e = some-none (sym e)
 body-fits (some k) body c n e = by (leb (bodyLength k) (length body)) refl e
   where
-    by : (b : Bool) → leb (bodyLength k) (length body) ≡ b → cond {A = Option (Command × ℕ)} b (some (commandOf k body, bodyLength k)) none ≡ some (c, n)
+    by : (b : Bool) → leb (bodyLength k) (length body) ≡ b
+        → cond {A = Option (Command × ℕ)} b (some (commandOf k body, bodyLength k)) none ≡ some (c, n)
         → n ≤ length body
     by true l f =
         let q : bodyLength k ≡ n = ap (λ x. x .1) (same-some f) in
@@ -106,7 +108,8 @@ body-fits (some k) body c n e = by (leb (bodyLength k) (length body)) refl e
 
 -- it reads the whole log
 pub run-reads-all : (E : Cipher) (s : State) (skip : ℕ) (log : List ℕ) (room : ℕ) → skip ≤ length log
-    → carriedOut E s (parsed skip log) room .stop ≡ End → carriedOut E s (parsed skip log) room .taken + skip ≡ length log
+    → carriedOut E s (parsed skip log) room .stop ≡ End
+    → carriedOut E s (parsed skip log) room .taken + skip ≡ length log
 unfolding parsed parsedBy first onward
 run-reads-all E s zero [] room h e = (unfold carriedOut stopped in refl)
 run-reads-all E s (suc skip) [] room h e = absurd (omega arith)
@@ -115,7 +118,8 @@ run-reads-all E s (suc skip) (b ∷ log) room h e =
 run-reads-all E s zero (b ∷ body) room h e =
     by (first b body) refl e (λ s n room l f. run-reads-all E s n body room l f)
   where
-    by : (o : Option (Command × ℕ)) → first b body ≡ o → carriedOut E s (parsedBy o (λ n. parsed n body)) room .stop ≡ End
+    by : (o : Option (Command × ℕ)) → first b body ≡ o
+        → carriedOut E s (parsedBy o (λ n. parsed n body)) room .stop ≡ End
         → ((s : State) (n room : ℕ) → n ≤ length body → carriedOut E s (parsed n body) room .stop ≡ End
         → carriedOut E s (parsed n body) room .taken + n ≡ length body)
         → carriedOut E s (parsedBy o (λ n. parsed n body)) room .taken + 0 ≡ length (b ∷ body)

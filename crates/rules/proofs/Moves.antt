@@ -45,7 +45,8 @@ high-bits (suc (suc zero)) l e f = absurd (omega arith)
 high-bits (suc (suc (suc zero))) l e f = (refl, refl)
 high-bits (suc (suc (suc (suc q)))) l e f = absurd (omega arith)
 
-moved-digits : (b : ℕ) → b < 256 → b / 32 % 2 ≡ 1 → b / 128 % 2 ≡ 0 → ((b + 96) / 128 % 2 ≡ 1) × ((b + 96) / 64 % 2 ≡ b / 64 % 2)
+moved-digits : (b : ℕ) → b < 256 → b / 32 % 2 ≡ 1 → b / 128 % 2 ≡ 0
+    → ((b + 96) / 128 % 2 ≡ 1) × ((b + 96) / 64 % 2 ≡ b / 64 % 2)
 moved-digits b l e f =
     let c : b / 128 ≡ b / 32 / 4 = omega arith in
     let d : b / 64 ≡ b / 32 / 2 = omega arith in

@@ -1,4 +1,5 @@
--- The table of places: a range is found in the place in which it lies, no other range is found, and every byte is in a place.
+-- The table of places: a range is found in the place in which it lies, no other range is found, and every byte is in
+-- a place.
 use Prim.Native.Nat.{ℕ, zero, suc, _+_, _-_, _*_, _/_, _≤_, _<_}
 use mathlib.Core.Path.{_≡_, refl, sym, ap, _∙_}
 use mathlib.Core.Logic.{_≢_, _⊎_, inl, inr}
@@ -11,7 +12,7 @@ use native.Mathlib.Decide.{ℕ-discrete, decLe}
 use borrow.Author.Tests.{leb-true, ltb-true, le-leb, lt-ltb}
 use Rattle.rules.specs.declared.Place.{Place}
 use Rattle.rules.specs.declared.Place.the-variants.{Header, Hidden, RegisterOf, Pins, Readers, UnitOf, Spare, Segment, Public}
-use Rattle.rules.specs.Map.{Row, row, liesIn, find, rows, most, segmentAt, segments, placeOf, publics, sound, registerNo, registerAt, unitAt, pinAt, segmentsAt}
+use Rattle.rules.specs.Map.{Row, row, liesIn, find, rows, most, segmentAt, unitAt, segmentsAt, segments, placeOf, publics, sound, registerNo, registerAt, pinAt}
 use Rattle.rules.specs.Claims.{Within, Holds, MapExact}
 use Rattle.rules.proofs.Tests.{and-true, some-none, same-some}
 use Rattle.rules.proofs.BytesLaws.{Apart}
@@ -122,9 +123,13 @@ rows-adjoin : (A P : ℕ) → A ≤ most → Adjoin 0 (segmentAt A (A + P)) (row
 unfolding rows
 rows-adjoin A P h =
     let r = units-fit A h in
-    (omega arith, (omega arith, (omega arith, (omega arith, (omega arith, (omega arith, (omega arith, (omega arith, (omega arith, omega arith)))))))))
+    let behind-spare : segmentAt A 0 ≡ unitAt A + (segmentsAt A - unitAt A) * 1 = omega arith in
+    let behind : segmentAt A A ≡ segmentAt A 0 + 4096 * A = omega arith in
+    let ends : segmentAt A A + 4096 * P ≡ segmentAt A (A + P) = omega arith in
+    (refl, (refl, (refl, (refl, (refl, (refl, (refl, (behind-spare, (behind, ends)))))))))
 
-pub place-found : (t : List ℕ) (p : Place) (a n : ℕ) → segments t ≤ most → 1 ≤ n → Holds t p a n → placeOf t a n ≡ some p
+pub place-found : (t : List ℕ) (p : Place) (a n : ℕ) → segments t ≤ most → 1 ≤ n → Holds t p a n
+    → placeOf t a n ≡ some p
 unfolding placeOf
 place-found t p a n h l w =
     find-found (rows (segments t) (publics t)) _ _ a n p l (rows-adjoin (segments t) (publics t) h) w
@@ -252,7 +257,8 @@ extent A P a n p h (inr (inr (inr (inr (inr (inl w)))))) = rw (w .2) (w .1, omeg
 extent A P a n p h (inr (inr (inr (inr (inr (inr (inl w))))))) = rw (w .2) (spare (w .0) (w .1) (w .3) (w .4))
   where
     spare : (i : ℕ) → i < 1 → unitAt A + (segmentsAt A - unitAt A) * i ≤ a
-        → a + n ≤ unitAt A + (segmentsAt A - unitAt A) * i + (segmentsAt A - unitAt A) → (unitAt A ≤ a) × (a + n ≤ segmentsAt A)
+        → a + n ≤ unitAt A + (segmentsAt A - unitAt A) * i + (segmentsAt A - unitAt A)
+        → (unitAt A ≤ a) × (a + n ≤ segmentsAt A)
     spare zero c b e = let r = units-fit A h in (omega arith, omega arith)
     spare (suc i) c b e = absurd (omega arith)
 extent A P a n p h (inr (inr (inr (inr (inr (inr (inr (inl w)))))))) = rw (w .2) (w .1, omega arith, omega arith)

@@ -95,7 +95,8 @@ register-ascends E s Id bs = refl
 register-ascends E s Commit bs = refl
 register-ascends E s Pa bs = refl
 
-write-ascends : (E : Cipher) (s : State) (a : ℕ) (bs : List ℕ) (q : Option Place) → ascends 2 14 (inPlace q (λ p. writeChecks E s p a bs)) ≡ true
+write-ascends : (E : Cipher) (s : State) (a : ℕ) (bs : List ℕ) (q : Option Place)
+    → ascends 2 14 (inPlace q (λ p. writeChecks E s p a bs)) ≡ true
 unfolding inPlace writeChecks headerWriteChecks editChecks segmentWriteChecks
 write-ascends E s a bs none = refl
 write-ascends E s a bs (some Header) = refl
@@ -230,7 +231,8 @@ refused-changes-nothing E s c n e =
     answer : reply E s c ≡ refused n
     answer = reply-is E s c (some n) e ∙ (unfold replyBy in refl)
 
-    flagged : n ≡ 11 → after E s c .tag ≡ cond (eqb n 11) (put 12 (1 ∷ []) (s .tag)) (s .tag) → flag (after E s c .tag) ≡ 1
+    flagged : n ≡ 11 → after E s c .tag ≡ cond (eqb n 11) (put 12 (1 ∷ []) (s .tag)) (s .tag)
+        → flag (after E s c .tag) ≡ 1
     flagged h t =
         let w = eleven-sound E s c (e ∙ ap some h) in
         let g = sound-long (s .tag) w in

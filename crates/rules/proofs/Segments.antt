@@ -1,4 +1,5 @@
--- A read or write inside one segment: 11 is none of its refusals, it leaves the session, and its stores are lawful ones.
+-- A read or write inside one segment: 11 is none of its refusals, it leaves the session, and its stores are lawful
+-- ones.
 use Prim.Native.Nat.{ℕ, zero, suc, _≤_}
 use mathlib.Core.Path.{_≡_, refl, sym, ap, ap₂, _∙_}
 use mathlib.Core.Logic.{_≢_, inl, inr}
@@ -14,7 +15,7 @@ use Rattle.rules.specs.Map.{segments, publics, sound, placeOf}
 use Rattle.rules.specs.State.{Cipher, State}
 use Rattle.rules.specs.Refusals.{Checks, granted, _when_else_, lowest, writeChecks, segmentWriteChecks}
 use Rattle.rules.specs.Effects.{Store, refusalStores, writeSession, apply}
-use Rattle.rules.specs.Command.{Command, read, write, refusal, checks, inPlace, stores, after, afterBy, newSession, sessionIn}
+use Rattle.rules.specs.Command.{Command, read, write, refusal, checks, inPlace, stores, afterBy, after, newSession, sessionIn}
 use Rattle.rules.specs.Claims.{Applies, Holds}
 use Rattle.rules.proofs.Tests.{some-none, or-false, same-some}
 use Rattle.rules.proofs.StoreLaws.{Each}
@@ -42,7 +43,8 @@ not-11 (m when true else cs) n h e =
     let q : m ≡ n = cc in λ f. eqb-false m 11 (or-false (eqb m 11) (has11 cs) h .0) (q ∙ f)
 not-11 (m when false else cs) n h e = not-11 cs n (or-false (eqb m 11) (has11 cs) h .1) e
 
-write-not-11 : (E : Cipher) (s : State) (A P k a : ℕ) (bs : List ℕ) (p : Place) → Numbered A P k p → has11 (writeChecks E s p a bs) ≡ false
+write-not-11 : (E : Cipher) (s : State) (A P k a : ℕ) (bs : List ℕ) (p : Place) → Numbered A P k p
+    → has11 (writeChecks E s p a bs) ≡ false
 unfolding writeChecks segmentWriteChecks
 write-not-11 E s A P k a bs p (controlled h) = refl
 write-not-11 E s A P k a bs p (open-to-all l e h) = refl
@@ -90,7 +92,8 @@ module _ (E : Cipher) (s : State) (k a n : ℕ) (p : Place) (w : sound (s .tag) 
   unfolding refusalStores
   no-stores m q = rw (ne-eqb m 11 q)
 
-  lawful-by : (c : Command) (o : Option ℕ) → refusal E s c ≡ o → Ranged a n c → Each (Lawful (s .tag) p a n) (madeBy o E s c)
+  lawful-by : (c : Command) (o : Option ℕ) → refusal E s c ≡ o → Ranged a n c
+      → Each (Lawful (s .tag) p a n) (madeBy o E s c)
   lawful-by c (some m) e r = unfold madeBy in (rw (no-stores m (ranged-not-11 E s k a n p c u h r m e)) tt)
   lawful-by c none e (a-read room) = unfold madeBy stores in tt
   lawful-by c none e (a-write bs l) =
@@ -101,7 +104,8 @@ module _ (E : Cipher) (s : State) (k a n : ℕ) (p : Place) (w : sound (s .tag) 
   pub made-lawful : (c : Command) → Ranged a n c → Each (Lawful (s .tag) p a n) (made c)
   made-lawful c r = lawful-by c (refusal E s c) refl r
 
-  segment-session : (bs : List ℕ) (q : Place) → Numbered (segments (s .tag)) (publics (s .tag)) k q → writeSession E s q bs ≡ s .session
+  segment-session : (bs : List ℕ) (q : Place) → Numbered (segments (s .tag)) (publics (s .tag)) k q
+      → writeSession E s q bs ≡ s .session
   unfolding writeSession
   segment-session bs q (controlled g) = refl
   segment-session bs q (open-to-all l e g) = refl

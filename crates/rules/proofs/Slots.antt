@@ -22,7 +22,7 @@ use Rattle.rules.specs.Effects.{Store, _↤_, writeStores, stored, write
 use Rattle.rules.specs.Command.{write, grant, refusal, stores, refused, Command, read, advance, powerUp, done, Reply, replyBy, reply, gives, after}
 use Rattle.rules.specs.Demand3.{slot, valueAt, CounterSegment, counted, LockedCounter}
 use Rattle.rules.specs.Claims.{Holds, ownMove}
-use Rattle.rules.proofs.BytesLaws.{Apart, part-put-same, part-put}
+use Rattle.rules.proofs.BytesLaws.{Apart, part-put, part-put-same}
 use Rattle.rules.proofs.StoreLaws.{Each, Off, each-map, apply-part}
 use Rattle.rules.proofs.MapLaws.{sound-long}
 use Rattle.rules.proofs.Places.{placed, places-apart, segment-holds, controlled, place-holds, at-segment}
@@ -47,7 +47,8 @@ module _ (E : Cipher) (s : State) (k : ℕ) (w : sound (s .tag) ≡ true) (cs : 
       to-slot ((a - segmentAt (segments (s .tag)) k) / 8) (omega arith) (omega arith) (x .1)
       (x .2 ∙ ap (λ n. number (part a n (s .tag)) + 1) (x .1)) (rw (cs .counts))
 
-  write-effect : (p : Place) (a : ℕ) (bs : List ℕ) → Holds (s .tag) p a (length bs) → lowest (writeChecks E s p a bs) ≡ none
+  write-effect : (p : Place) (a : ℕ) (bs : List ℕ) → Holds (s .tag) p a (length bs)
+      → lowest (writeChecks E s p a bs) ≡ none
       → (p ≡ Segment k) ⊎ (p ≢ Segment k) → Effect (s .tag) k a bs (writeStores E s p a bs)
   write-effect p a bs h e (inl q) = rw q (segment-effect a bs (rw q at h) (rw q at e))
   write-effect p a bs h e (inr q) =
@@ -56,7 +57,8 @@ module _ (E : Cipher) (s : State) (k : ℕ) (w : sound (s .tag) ≡ true) (cs : 
       let g = sound-long (s .tag) w .0 in
       elsewhere (write-off E s p a bs _ 4096 w h e (omega arith) off (λ l f b. omega arith)) off
 
-  granted-effect : (a : ℕ) (bs : List ℕ) → refusal E s (write a bs) ≡ none → Effect (s .tag) k a bs (stores E s (write a bs))
+  granted-effect : (a : ℕ) (bs : List ℕ) → refusal E s (write a bs) ≡ none
+      → Effect (s .tag) k a bs (stores E s (write a bs))
   granted-effect a bs e =
       let g = granted-write E s a bs e in
       subst (Effect (s .tag) k a bs) (sym (stores-write E s a bs (g .place) (g .found)))
@@ -96,7 +98,8 @@ counted-apart x a bs h = by (eqb a x) refl (eqb (length bs) 8) refl
 abbrev Counts : List ℕ → (k j : ℕ) → Command → Reply → List Store → Type 0
 Counts t k j c r ss = valueAt (slot t k j) (apply ss t) ≡ valueAt (slot t k j) t + counted (slot t k j) c r
 
-each-slot : (A k j : ℕ) (ss : List Store) → j < 512 → Each (Off (segmentAt A k) 4096) ss → Each (Off (slotAt A k j) 8) ss
+each-slot : (A k j : ℕ) (ss : List Store) → j < 512 → Each (Off (segmentAt A k) 4096) ss
+    → Each (Off (slotAt A k j) 8) ss
 each-slot A k j ss h e =
     each-map (Off (segmentAt A k) 4096) (Off (slotAt A k j) 8) ss (λ x ys f i p q u v. f i p q (omega arith) (omega arith)) e
 
@@ -127,7 +130,8 @@ counts-effect t k j a bs ss w h l (to-slot i m e n v f) =
 -- ---- one command
 
 module _ (E : Cipher) (s : State) (k : ℕ) (w : sound (s .tag) ≡ true) (cs : CounterSegment (s .tag) k) where
-  made-counts : (j : ℕ) (c : Command) (r : Option ℕ) → j < 512 → refusal E s c ≡ r → Counts (s .tag) k j c (replyBy r s c) (madeBy r E s c)
+  made-counts : (j : ℕ) (c : Command) (r : Option ℕ) → j < 512 → refusal E s c ≡ r
+      → Counts (s .tag) k j c (replyBy r s c) (madeBy r E s c)
   unfolding madeBy replyBy grant stores counted
   made-counts j c (some n) l e =
       let g = sound-long (s .tag) w .0 in
@@ -152,7 +156,8 @@ module _ (E : Cipher) (s : State) (k : ℕ) (w : sound (s .tag) ≡ true) (cs : 
       → number bs ≡ valueAt (slot (s .tag) k j) (s .tag) + 1
   next-value j bs l n e = by _ (granted-effect E s k w cs (slot (s .tag) k j) bs e)
     where
-      by : (ss : List Store) → Effect (s .tag) k (slot (s .tag) k j) bs ss → number bs ≡ valueAt (slot (s .tag) k j) (s .tag) + 1
+      by : (ss : List Store) → Effect (s .tag) k (slot (s .tag) k j) bs ss
+          → number bs ≡ valueAt (slot (s .tag) k j) (s .tag) + 1
       by ss (elsewhere f g) = absurd (g (slot (s .tag) k j) (omega arith) (omega arith) (omega arith) (omega arith))
       by ss (to-slot i m f n v q) = v
 

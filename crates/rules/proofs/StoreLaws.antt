@@ -11,7 +11,8 @@ abbrev pub Each : (Store → Type 0) → List Store → Type 0
 Each P [] = Unit {0}
 Each P (s ∷ ss) = P s × Each P ss
 
-pub each-map : (P Q : Store → Type 0) (ss : List Store) → ((x : ℕ) (ys : List ℕ) → P (x ↤ ys) → Q (x ↤ ys)) → Each P ss → Each Q ss
+pub each-map : (P Q : Store → Type 0) (ss : List Store) → ((x : ℕ) (ys : List ℕ) → P (x ↤ ys) → Q (x ↤ ys)) → Each P ss
+    → Each Q ss
 each-map P Q [] f h = tt
 each-map P Q ((x ↤ ys) ∷ ss) f h = (f x ys (h .0), each-map P Q ss f (h .1))
 

@@ -33,8 +33,8 @@ Within p a n (row start size count place ∷ rs) =
 abbrev pub Holds : List ℕ → Place → ℕ → ℕ → Type 0
 Holds t p a n = Within p a n (rows (segments t) (publics t))
 
--- a range that lies wholly inside one place is found in that place, and no other range is found; no two places share a byte; and
--- each byte of the tag is in a place
+-- a range that lies wholly inside one place is found in that place, and no other range is found; no two places share
+-- a byte; and each byte of the tag is in a place
 pub record TheMap (t : List ℕ) : Type 0 where
   pub found : (p : Place) (a n : ℕ) → 1 ≤ n → Holds t p a n → placeOf t a n ≡ some p
   pub no-other : (p : Place) (a n : ℕ) → placeOf t a n ≡ some p → Holds t p a n
@@ -77,7 +77,8 @@ pub record RefusedChangesNothing (E : Cipher) (s : State) (c : Command) (n : ℕ
   pub other-bytes : (i : ℕ) → i ≢ 12 → byte i (after E s c .tag) ≡ byte i (s .tag)
   pub same-length : length (after E s c .tag) ≡ length (s .tag)
 
--- ---- a sound tag stays sound, and what no command may write stays as it was: hidden part and registers, PIN 0, reader IDs
+-- ---- a sound tag stays sound, and what no command may write stays as it was: hidden part and registers, PIN 0,
+-- reader IDs
 
 pub record SoundStays (E : Cipher) (s : State) (c : Command) : Type 0 where
   pub stays-sound : sound (after E s c .tag) ≡ true
@@ -104,7 +105,8 @@ pub record LockedUnit (E : Cipher) (s : State) (k : ℕ) (c : Command) : Type 0 
 abbrev pub bits : ℕ → List Bool
 bits b = bit 7 b ∷ bit 6 b ∷ bit 5 b ∷ bit 4 b ∷ bit 3 b ∷ bit 2 b ∷ bit 1 b ∷ bit 0 b ∷ []
 
--- "clears WR and sets RD", where WR is set and RD clear, and leaves the other bits; a stage goes up by one, and its model stays
+-- "clears WR and sets RD", where WR is set and RD clear, and leaves the other bits; a stage goes up by one, and its
+-- model stays
 pub record MovesExact (b : ℕ) : Type 0 where
   pub bits-moved : bit 7 b ≡ false → bit 5 b ≡ true
       → bits (readOnly b) ≡ true ∷ bit 6 b ∷ false ∷ bit 4 b ∷ bit 3 b ∷ bit 2 b ∷ bit 1 b ∷ bit 0 b ∷ []

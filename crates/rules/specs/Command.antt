@@ -1,5 +1,5 @@
--- One command: its answer and what it leaves. Document 01, "Refusal numbers" 1 to 3, "A granted read fills ..", and "How tight the
--- answers are". Assumes nothing.
+-- One command: its answer and what it leaves. Document 01, "Refusal numbers" 1 to 3, "A granted read fills ..", and
+-- "How tight the answers are". Assumes nothing.
 use Prim.Native.Nat.{ℕ}
 use mathlib.Core.Bool.{true, not}
 use mathlib.Core.List.{List, []}
@@ -84,7 +84,8 @@ grant s (write a bs) = done
 grant s (advance k) = done
 grant s powerUp = done
 
--- ---- the answer, and the state after it: "A refused command .. returns its number alone and changes nothing, except 11"
+-- ---- the answer, and the state after it: "A refused command .. returns its number alone and changes nothing, except
+-- 11"
 
 unfoldable pub replyBy : Option ℕ → State → Command → Reply
 replyBy none s c = grant s c

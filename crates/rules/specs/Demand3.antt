@@ -1,5 +1,5 @@
--- Demand 3 as a statement, in the senses of document 01, "How tight the answers are": `Demand3 E s` is to hold for every cipher `E`
--- and every state `s` whose tag is sound, and `LogDemand3 E s` too. Assumes nothing.
+-- Demand 3 as a statement, in the senses of document 01, "How tight the answers are": `Demand3 E s` is to hold for
+-- every cipher `E` and every state `s` whose tag is sound, and `LogDemand3 E s` too. Assumes nothing.
 use Prim.Native.Nat.{ℕ, _+_, _≤_, _<_}
 use mathlib.Core.Path.{_≡_}
 use mathlib.Core.Logic.{_≢_}
@@ -97,8 +97,8 @@ withGranted done c cs = c ∷ cs
 withGranted (gives b) c cs = c ∷ cs
 withGranted (refused n) c cs = cs
 
--- "copies of granted writes to such slots .. each anywhere after its own write": t is the tag at the start, s the state that the
--- list's own commands have left, `before` those of them that were granted
+-- "copies of granted writes to such slots .. each anywhere after its own write": t is the tag at the start, s the
+-- state that the list's own commands have left, `before` those of them that were granted
 abbrev pub CopiesOfGranted : Cipher → (t : List ℕ) (s : State) (before : List Command) → List Entry → Type 0
 CopiesOfGranted E t s before [] = Unit {0}
 CopiesOfGranted E t s before (own c ∷ es) = CopiesOfGranted E t (after E s c) (withGranted (reply E s c) c before) es
@@ -107,7 +107,8 @@ CopiesOfGranted E t s before (copy c ∷ es) =
 
 -- ---- neighbours
 
--- "each is a read or write wholly inside one access-controlled or public segment": segment k; the public ones count on from A
+-- "each is a read or write wholly inside one access-controlled or public segment": segment k; the public ones count
+-- on from A
 abbrev pub Inside : List ℕ → ℕ → Command → Type 0
 Inside t k (read a n room) =
     (k < segments t + publics t) × (segmentAt (segments t) k ≤ a) × (a + n ≤ segmentAt (segments t) k + 4096)
@@ -125,8 +126,8 @@ pub data MayChangePlaces (t : List ℕ) : Command → Command → Type 0 where
 -- ---- the demand
 
 pub record Demand3 (E : Cipher) (s : State) : Type 0 where
-  -- "each slot of a segment that at the start is a counter segment with a locked unit holds its start value plus the number of
-  -- granted writes to it"
+  -- "each slot of a segment that at the start is a counter segment with a locked unit holds its start value plus the
+  -- number of granted writes to it"
   pub counting : (cs : List Command) (k j : ℕ) → LockedCounter (s .tag) k → j < 512
       → valueAt (slot (s .tag) k j) (final E s cs .tag)
       ≡ valueAt (slot (s .tag) k j) (s .tag) + grants (slot (s .tag) k j) cs (replies E s cs)
@@ -135,8 +136,8 @@ pub record Demand3 (E : Cipher) (s : State) : Type 0 where
       → AllRefused (copyReplies es (replies E s (withCopies es)))
       × (ownReplies es (replies E s (withCopies es)) ≡ replies E s (withoutCopies es))
       × (final E s (withCopies es) ≡ final E s (withoutCopies es))
-  -- "Two neighbours in the list may change places, with the same answers and end state": each keeps its own answer, and what is
-  -- a counter segment is judged just before the two
+  -- "Two neighbours in the list may change places, with the same answers and end state": each keeps its own answer,
+  -- and what is a counter segment is judged just before the two
   pub neighbours : (before later : List Command) (c d : Command) → MayChangePlaces (final E s before .tag) c d
       → (rs : List Reply)
       × (replies E s (before ++ c ∷ d ∷ later)
@@ -145,8 +146,8 @@ pub record Demand3 (E : Cipher) (s : State) : Type 0 where
       ≡ replies E s before ++ reply E (final E s before) d ∷ reply E (final E s before) c ∷ rs)
       × (final E s (before ++ c ∷ d ∷ later) ≡ final E s (before ++ d ∷ c ∷ later))
 
--- ---- "Of a log run, whose commands are the list and whose replies are the answers, it speaks only where no 15 or 16 stops the run,
--- with or without the copies and in either order."
+-- ---- "Of a log run, whose commands are the list and whose replies are the answers, it speaks only where no 15 or 16
+-- stops the run, with or without the copies and in either order."
 
 pub record Ends (E : Cipher) (s : State) (log : List ℕ) (room : ℕ) : Type 0 where
   pub ends : runLog E s log room .stop ≡ End

@@ -29,8 +29,8 @@ apply ((at ↤ bs) ∷ ss) t = apply ss (put at bs t)
 abbrev pub setFlag : ℕ → Store
 setFlag b = 12 ↤ (b ∷ [])
 
--- ---- "Segment write: .. Default stores. Model 1 stores, then clears WR and sets RD. Model 2 takes one aligned slot .. Model 3 stores
--- at stage 0 and XORs into what is there at stage 1."
+-- ---- "Segment write: .. Default stores. Model 1 stores, then clears WR and sets RD. Model 2 takes one aligned slot
+-- .. Model 3 stores at stage 0 and XORs into what is there at stage 1."
 
 unfoldable pub stored : Model → List ℕ → List ℕ → List ℕ
 stored Default old bs = bs
@@ -64,8 +64,8 @@ advanced (Receiver Two) u = byte 0 u ∷ byte 1 u ∷ []
 unfoldable pub advanceStores : List ℕ → ℕ → List Store
 advanceStores t k = (unitAt k ↤ advanced (unitOf (unitBytes t k) .model) (unitBytes t k)) ∷ []
 
--- ---- registers: "READ, WRITE, EDIT: flag .. is set to 1 .. NAME: same flag rule .. COMMIT: same flag rule; .. the written bytes XOR
--- E_K(counter) become the PIN at the index"
+-- ---- registers: "READ, WRITE, EDIT: flag .. is set to 1 .. NAME: same flag rule .. COMMIT: same flag rule; .. the
+-- written bytes XOR E_K(counter) become the PIN at the index"
 
 unfoldable pub registerStores : Cipher → State → Register → List ℕ → List Store
 registerStores E s Read bs = setFlag 1 ∷ []
@@ -79,8 +79,8 @@ registerStores E s Commit bs =
     ∷ []
 registerStores E s Pa bs = []
 
--- "that index becomes the validated index of this register's kind, the other two staying"; "the bytes XOR E_PIN(counter) become the
--- session name"; "ID and PA registers: store 16 bytes in the session"
+-- "that index becomes the validated index of this register's kind, the other two staying"; "the bytes XOR
+-- E_PIN(counter) become the session name"; "ID and PA registers: store 16 bytes in the session"
 unfoldable pub registerSession : Cipher → State → Register → List ℕ → Session
 registerSession E s Read bs = withRead (pinIndex (s .session)) (s .session)
 registerSession E s Write bs = withWrite (pinIndex (s .session)) (s .session)

@@ -82,9 +82,9 @@ pub record NotEmpty : Type 0 where
 
 -- ---- "Errors that look right". 1 and 5 are among the examples above.
 
--- 2: after a wrong response the flag is set, and the same counter value takes no second guess, not even the right one.
--- 4: with index 7 validated (its PIN is zeros, and so is the counter), a unit that has RDPIN set and names 0 refuses 7, until 0 is
--- validated again, or until power-up.
+-- 2: after a wrong response the flag is set, and the same counter value takes no second guess, not even the right
+-- one. 4: with index 7 validated (its PIN is zeros, and so is the counter), a unit that has RDPIN set and names 0
+-- refuses 7, until 0 is validated again, or until power-up.
 unfoldable pub errors : List Example
 errors =
     byList counterTag
@@ -107,8 +107,8 @@ errors =
 abbrev pub ErrorsShown : Type 0
 ErrorsShown = map got errors ≡ map owed errors
 
--- 3: "Calling a repeated XOR write or register write harmless." The second XOR write takes the first one back. The second NAME
--- write, after the next counter value, sets the flag again and makes another name. Both are granted.
+-- 3: "Calling a repeated XOR write or register write harmless." The second XOR write takes the first one back. The
+-- second NAME write, after the next counter value, sets the flag again and makes another name. Both are granted.
 
 unfoldable pub xorWrite : Command
 xorWrite = write 16384 (1 ∷ [])

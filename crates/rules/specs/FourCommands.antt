@@ -1,5 +1,5 @@
--- Document 01, "Drawer examples", the last: "a host that knows the PIN reads after four uninterrupted commands: PA, counter, READ,
--- read". Assumes nothing.
+-- Document 01, "Drawer examples", the last: "a host that knows the PIN reads after four uninterrupted commands: PA,
+-- counter, READ, read". Assumes nothing.
 use Prim.Native.Nat.{ℕ, _+_, _-_, _^_, _≤_, _<_}
 use mathlib.Core.Path.{_≡_}
 use mathlib.Core.Bool.{true, false}
@@ -12,8 +12,8 @@ use Rattle.rules.specs.State.{Cipher, encipheredCounter, pin, State}
 use Rattle.rules.specs.Command.{Command, write, read, done, gives}
 use Rattle.rules.specs.Run.{replies}
 
--- The host names PIN index i in PA, the rest of which is any 14 bytes; writes the counter plus one; writes the response by the PIN
--- and that counter; and reads the n bytes at a.
+-- The host names PIN index i in PA, the rest of which is any 14 bytes; writes the counter plus one; writes the
+-- response by the PIN and that counter; and reads the n bytes at a.
 unfoldable pub fourCommands : Cipher → (t : List ℕ) (i : ℕ) (rest : List ℕ) (a n room : ℕ) → List Command
 fourCommands E t i rest a n room =
     write (registerAt 6) (bytesOf 2 i ++ rest)
@@ -22,8 +22,8 @@ fourCommands E t i rest a n room =
     ∷ read a n room
     ∷ []
 
--- "For a segment with RD set, PN clear and a well-formed unit, on a sound tag with counter below 2^64 - 1": of the cipher it is
--- assumed only that a block of 16 bytes gives 16
+-- "For a segment with RD set, PN clear and a well-formed unit, on a sound tag with counter below 2^64 - 1": of the
+-- cipher it is assumed only that a block of 16 bytes gives 16
 abbrev pub HostReads : Type 0
 HostReads =
     (E : Cipher) → ((key block : List ℕ) → length block ≡ 16 → length (E key block) ≡ 16)

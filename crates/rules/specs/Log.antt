@@ -105,7 +105,8 @@ roomFor (write a bs) = 2
 roomFor (advance k) = 2
 roomFor powerUp = 2
 
--- ---- the run: "returns bytes read .., bytes written, the stop (end, 15, 16) and the session"; the bytes written are `output`
+-- ---- the run: "returns bytes read .., bytes written, the stop (end, 15, 16) and the session"; the bytes written are
+-- `output`
 
 pub record Run : Type 0 where
   pub taken : ℕ
@@ -121,8 +122,8 @@ stopped x out s = record { taken = 0; output = out; stop = x; state = s }
 unfoldable pub onward : ℕ → List ℕ → Run → Run
 onward n out r = record { taken = n + r .taken; output = out ++ r .output; stop = r .stop; state = r .state }
 
--- "A 15 is replied and ends the run. .. otherwise the run stops with 16, which is returned and not written, and the command isn't
--- carried out."
+-- "A 15 is replied and ends the run. .. otherwise the run stops with 16, which is returned and not written, and the
+-- command isn't carried out."
 unfoldable pub carriedOut : Cipher → State → Parsed → (room : ℕ) → Run
 carriedOut E s end room = stopped End [] s
 carriedOut E s unreadable room =

@@ -29,8 +29,8 @@ flag t = byte 12 t
 unfoldable pub most : ℕ
 most = 128
 
--- ---- the address rule. How many management segments hold the units, and so where the segments begin, is said here alone:
--- the laws in proofs/ know of `segmentsAt` only that the units end before it.
+-- ---- the address rule. How many management segments hold the units, and so where the segments begin, is said here
+-- alone: the laws in proofs/ know of `segmentsAt` only that the units end before it.
 
 unfoldable pub managements : ℕ → ℕ
 managements A = 1
@@ -62,8 +62,8 @@ segmentAt A k = segmentsAt A + 4096 * k
 abbrev pub slotAt : ℕ → ℕ → ℕ → ℕ
 slotAt A k j = segmentAt A k + 8 * j
 
--- ---- "A tag is sound when its length is 4,096 x (4+A+P), A and P are in range, the flag is 0 or 1, the three zeros hold, and
--- PIN 0 is all zeros"
+-- ---- "A tag is sound when its length is 4,096 x (4+A+P), A and P are in range, the flag is 0 or 1, the three zeros
+-- hold, and PIN 0 is all zeros"
 
 unfoldable pub soundness : List ℕ → List Bool
 soundness t =

@@ -1,5 +1,5 @@
--- Document 01, "What a command does" and "Refusal numbers": what refuses a command in a place, 4 to 14. Assumes nothing.
--- `t` is the tag, `v` the session, `u` the bytes of a unit, `bs` the bytes to be written.
+-- Document 01, "What a command does" and "Refusal numbers": what refuses a command in a place, 4 to 14. Assumes
+-- nothing. `t` is the tag, `v` the session, `u` the bytes of a unit, `bs` the bytes to be written.
 use Prim.Native.Nat.{ℕ, _+_, _-_, _%_}
 use mathlib.Core.Bool.{Bool, true, false, _&&_, not, cond}
 use mathlib.Core.List.{List, [], _∷_}
@@ -48,7 +48,8 @@ headerWriteChecks t a bs =
     12 when not (isNext (part 4 8 t) bs) else
     granted
 
--- ---- "Segment read: RD set; if RDPIN, the validated read index equals the unit's; if PN, the session name equals the unit's."
+-- ---- "Segment read: RD set; if RDPIN, the validated read index equals the unit's; if PN, the session name equals
+-- the unit's."
 
 unfoldable pub segmentReadChecks : Session → List ℕ → Checks
 segmentReadChecks v u =
@@ -60,7 +61,8 @@ segmentReadChecks v u =
 
 -- ---- "Segment write: the same with WR, WRPIN and the write index."
 
--- "Model 2 takes one aligned slot of eight bytes holding the old value plus one": `bs` for `old` at offset `o` of the segment
+-- "Model 2 takes one aligned slot of eight bytes holding the old value plus one": `bs` for `old` at offset `o` of the
+-- segment
 unfoldable pub slotRefuses : Model → ℕ → List ℕ → List ℕ → Bool
 slotRefuses Default o old bs = false
 slotRefuses WriteOnce o old bs = false
@@ -84,7 +86,8 @@ unitReadChecks u o =
     6 when unitOf u .pn && ltb 16 o else
     granted
 
--- ---- "Unit edit: nE clear, the validated edit index equal to the unit's (as it was before the edit), and the result well formed."
+-- ---- "Unit edit: nE clear, the validated edit index equal to the unit's (as it was before the edit), and the result
+-- well formed."
 
 unfoldable pub isReceiver : Model → Bool
 isReceiver Default = false
@@ -130,7 +133,8 @@ editChecks v u w =
     13 when not (editAllowed u w) else
     granted
 
--- ---- "Advance (segment number): model 3 only, stage 0 to 1, 1 to 2 .. WRPIN and PN are checked as for a write, nE and WR are not."
+-- ---- "Advance (segment number): model 3 only, stage 0 to 1, 1 to 2 .. WRPIN and PN are checked as for a write, nE
+-- and WR are not."
 
 unfoldable pub canAdvance : Model → Bool
 canAdvance Default = false
@@ -173,7 +177,8 @@ nameChecks s bs =
     10 when eqb (flag (s .tag)) 1 else
     granted
 
--- "COMMIT: same flag rule; let K be the owner PIN. The guard must equal bytes 4 to 15 of E_K applied to the 16 written bytes"
+-- "COMMIT: same flag rule; let K be the owner PIN. The guard must equal bytes 4 to 15 of E_K applied to the 16
+-- written bytes"
 unfoldable pub commitChecks : Cipher → State → List ℕ → Checks
 commitChecks E s bs =
     9 when not (eqb (length bs) 16) else

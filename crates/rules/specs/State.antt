@@ -1,4 +1,5 @@
--- Document 01, "The memory map": the session; "What a command does": what PA names, and E_PIN(counter). Assumes nothing.
+-- Document 01, "The memory map": the session; "What a command does": what PA names, and E_PIN(counter). Assumes
+-- nothing.
 use Prim.Native.Nat.{ℕ}
 use mathlib.Core.List.{List, _++_}
 use lib.ListN.{replicate}

@@ -44,8 +44,8 @@ modelOf (suc zero) g = WriteOnce
 modelOf (suc (suc zero)) g = Counter
 modelOf (suc (suc (suc n))) g = Receiver g
 
--- "A unit read from memory is a record whose model carries its own stage." "With M clear byte 1 is ignored and the default model
--- holds." It is looked at only where the unit is well formed.
+-- "A unit read from memory is a record whose model carries its own stage." "With M clear byte 1 is ignored and the
+-- default model holds." It is looked at only where the unit is well formed.
 unfoldable pub unitOf : List ℕ → Unit
 unitOf u =
     record {

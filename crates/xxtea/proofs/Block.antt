@@ -36,7 +36,8 @@ words-bytes (w ∷ ws) h =
     let e : w % 2 ^ 8 + 2 ^ 8 * (w / 2 ^ 8 % 2 ^ 8) + 2 ^ 16 * (w / 2 ^ 16 % 2 ^ 8) + 2 ^ 24 * (w / 2 ^ 24 % 2 ^ 8) ≡ w = joined w l in
     rw (e, words-bytes ws (λ i q. h (suc i) (omega arith)))
   where
-    joined : (w : ℕ) → w < 4294967296 → w % 256 + 256 * (w / 256 % 256) + 65536 * (w / 65536 % 256) + 16777216 * (w / 16777216 % 256) ≡ w
+    joined : (w : ℕ) → w < 4294967296
+        → w % 256 + 256 * (w / 256 % 256) + 65536 * (w / 65536 % 256) + 16777216 * (w / 16777216 % 256) ≡ w
     joined w l =
         let a : w / 65536 ≡ w / 256 / 256 = omega arith in
         let b : w / 16777216 ≡ w / 256 / 256 / 256 = omega arith in
@@ -85,7 +86,8 @@ sixteen d key block e =
     let h = length-bytes (crypted d (wordsOf key) (wordsOf block)) in
     omega (arith, w, c, h)
 
-back : (d : Direction) (key block : List ℕ) → Bytes block → length block ≡ 16 → blockBy (opposite d) key (blockBy d key block) ≡ block
+back : (d : Direction) (key block : List ℕ) → Bytes block → length block ≡ 16
+    → blockBy (opposite d) key (blockBy d key block) ≡ block
 unfolding blockBy
 back d key block h e =
     let w = length-words 4 block e in

@@ -1,5 +1,5 @@
--- XXTEA on blocks of bytes: document 01, "The cipher": "A PIN is the key and a block is 16 bytes; both split into four words, low
--- byte first." Assumes nothing.
+-- XXTEA on blocks of bytes: document 01, "The cipher": "A PIN is the key and a block is 16 bytes; both split into
+-- four words, low byte first." Assumes nothing.
 use Prim.Native.Nat.{ℕ, _+_, _*_, _/_, _%_, _^_}
 use mathlib.Core.List.{List, [], _∷_}
 use Rattle.xxtea.specs.Xxtea.{Direction, crypted}

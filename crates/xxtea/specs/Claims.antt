@@ -11,7 +11,8 @@ use Rattle.xxtea.specs.Block.{blockBy}
 abbrev pub Words : List ℕ → Type 0
 Words ws = (i : ℕ) → i < length ws → getD ws i 0 < 2 ^ 32
 
--- "enciphering and deciphering, each undoing the other" (demand 2): for every key and every list of words, whatever its length
+-- "enciphering and deciphering, each undoing the other" (demand 2): for every key and every list of words, whatever
+-- its length
 pub record EachUndoesTheOther : Type 0 where
   pub deciphering : (key ws : List ℕ) → Words ws → deciphered key (enciphered key ws) ≡ ws
   pub enciphering : (key ws : List ℕ) → Words ws → enciphered key (deciphered key ws) ≡ ws
@@ -31,5 +32,7 @@ Bytes bs = (i : ℕ) → i < length bs → getD bs i 0 < 2 ^ 8
 -- a block of 16 bytes gives 16, and each direction undoes the other
 pub record BlockCipher : Type 0 where
   pub sixteen : (d : Direction) (key block : List ℕ) → length block ≡ 16 → length (blockBy d key block) ≡ 16
-  pub deciphering : (key block : List ℕ) → Bytes block → length block ≡ 16 → blockBy down key (blockBy up key block) ≡ block
-  pub enciphering : (key block : List ℕ) → Bytes block → length block ≡ 16 → blockBy up key (blockBy down key block) ≡ block
+  pub deciphering : (key block : List ℕ) → Bytes block → length block ≡ 16
+      → blockBy down key (blockBy up key block) ≡ block
+  pub enciphering : (key block : List ℕ) → Bytes block → length block ≡ 16
+      → blockBy up key (blockBy down key block) ≡ block

@@ -84,8 +84,8 @@ pass down f (suc n) ws = pass down f n (f n ws)
 unfoldable pub round : Direction → List ℕ → ℕ → List ℕ → List ℕ
 round d key sum ws = pass d (step d key sum) (length ws) ws
 
--- The cipher: all rounds, each with its sum. "Deciphering .. walks p downwards, subtracts the mix, then takes D from sum":
--- it does the same rounds, from the last to the first.
+-- The cipher: all rounds, each with its sum. "Deciphering .. walks p downwards, subtracts the mix, then takes D from
+-- sum": it does the same rounds, from the last to the first.
 unfoldable pub crypted : Direction → List ℕ → List ℕ → List ℕ
 crypted d key ws = pass d (λ r. round d key (sumIn (r + 1))) (roundsFor (length ws)) ws
 
