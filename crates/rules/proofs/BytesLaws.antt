@@ -8,7 +8,7 @@ use native.Mathlib.Nat.{div-add-mod', div-lt-iff-lt-mul, pow-suc}
 use lib.ListN.{length, take, drop, length-take, length-drop, length-append}
 use lib.Seq.{ext-getD, getD-take, getD-drop}
 use borrow.Author.Tests.{eq-eqb}
-use Rattle.rules.specs.Bytes.{part, put, byte, same, xor, bytesOf, numberFrom, number}
+use Rattle.rules.specs.Bytes.{part, put, byte, same, xor, bytesOf, number, numberFrom}
 
 -- no byte is both among the n at a and among the m at x
 abbrev pub Apart : ℕ → ℕ → ℕ → ℕ → Type 0

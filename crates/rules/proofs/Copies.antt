@@ -13,7 +13,7 @@ use Rattle.rules.specs.Map.{sound, segments}
 use Rattle.rules.specs.State.{State, Cipher}
 use Rattle.rules.specs.Command.{Command, write, after, refusal, replyBy, reply, grant, done, refused, Reply, gives}
 use Rattle.rules.specs.Run.{replies, final}
-use Rattle.rules.specs.Demand3.{slot, LockedCounter, valueAt, WritesLockedSlot, writes-slot, withGranted, Entry, CopiesOfGranted, AllRefused, copyReplies, copy, withCopies, own, ownReplies, withoutCopies, none-left, one-more}
+use Rattle.rules.specs.Demand3.{slot, LockedCounter, valueAt, WritesLockedSlot, writes-slot, withGranted, Entry, CopiesOfGranted, AllRefused, copy, copyReplies, withCopies, own, ownReplies, withoutCopies, none-left, one-more}
 use Rattle.rules.specs.Claims.{Holds}
 use Rattle.rules.proofs.Places.{segment-holds, controlled}
 use Rattle.rules.proofs.Grants.{reply-is}

@@ -1,6 +1,6 @@
 -- Demand 3, first part: the slots of locked counter segments count the grants.
-use Prim.Native.Nat.{ℕ, _+_, _<_}
-use mathlib.Core.Path.{_≡_, sym, ap, _∙_}
+use Prim.Native.Nat.{ℕ, suc, _+_, _<_}
+use mathlib.Core.Path.{_≡_, refl, sym, ap, _∙_}
 use mathlib.Core.Bool.{true}
 use mathlib.Core.List.{List, [], _∷_}
 use native.Mathlib.Omega.{arith}
@@ -10,6 +10,7 @@ use Rattle.rules.specs.State.{Cipher, State}
 use Rattle.rules.specs.Command.{Command, after, reply}
 use Rattle.rules.specs.Run.{final, replies}
 use Rattle.rules.specs.Demand3.{LockedCounter, slot, valueAt, grants, counted}
+use Rattle.rules.specs.Claims.{OneAnswerEach}
 use Rattle.rules.proofs.Lawful.{sound-stays}
 use Rattle.rules.proofs.Slots.{locked-stays, slot-counts}
 
@@ -32,3 +33,8 @@ counting-holds E s (c ∷ cs) k j x w lc l e =
     let now : valueAt x (after E s c .tag) ≡ valueAt x (s .tag) + counted x c (reply E s c) =
     rw e (slot-counts E s k w (lc .counter) j c l) in
     omega (arith, later, now)
+
+pub one-answer-each : (E : Cipher) (s : State) (cs : List Command) → OneAnswerEach E s cs
+unfolding replies
+one-answer-each E s [] = refl
+one-answer-each E s (c ∷ cs) = ap suc (one-answer-each E (after E s c) cs)

@@ -6,12 +6,12 @@ use lib.Dec.{lit<}
 use Rattle.rules.specs.Bytes.{put, part, numberFrom, same, zeros, xor, all, byte}
 use Rattle.rules.specs.Map.{segments, publics, counter, flag, most, managements, segmentsAt, sound, soundness, registerNo, rows, liesIn, find, placeOf}
 use Rattle.rules.specs.Units.{unitBytes, bit, stageOf, modelOf, unitOf, nameOf, modelFits, formedness, wellFormed}
-use Rattle.rules.specs.State.{poweredUp, withRead, withWrite, withEdit, withName, withId, withPa, pinIndex, pin, ownerIndex, owner, guard, encipheredCounter, response}
+use Rattle.rules.specs.State.{poweredUp, withRead, withWrite, withEdit, withName, withId, withPa, pin, pinIndex, owner, ownerIndex, guard, encipheredCounter, response}
 use Rattle.rules.specs.Refusals.{lowest, isNext, headerWriteChecks, segmentReadChecks, slotRefuses, segmentWriteChecks, unitReadChecks, isReceiver, pastStageZero, sameBool, keepsModel, editAllowed, editChecks, canAdvance, advanceChecks, plainChecks, responseChecks, nameChecks, commitChecks, registerChecks, readChecks, writeChecks}
 use Rattle.rules.specs.Effects.{apply, stored, readOnly, writeMove, advanced, advanceStores, registerStores, registerSession, writeStores, writeSession, refusalStores}
-use Rattle.rules.specs.Command.{refusal, inPlace, checks, storesIn, stores, sessionIn, newSession, grant, replyBy, reply, afterBy, after, filled}
+use Rattle.rules.specs.Command.{refusal, inPlace, checks, storesIn, stores, sessionIn, newSession, grant, reply, replyBy, after, afterBy, filled}
 use Rattle.rules.specs.Run.{final, replies}
-use Rattle.rules.specs.Log.{kinds, kindIn, bodyLength, commandOf, wholeOf, first, parsed, parsedBy, commandsOf, readCode, encoded, encodedAll, roomFor, stopped, onward, carriedOut, runLog}
+use Rattle.rules.specs.Log.{kinds, kindIn, bodyLength, commandOf, wholeOf, first, parsedBy, parsed, commandsOf, readCode, encoded, encodedAll, roomFor, stopped, onward, carriedOut, runLog}
 use Rattle.rules.specs.Examples.{StarredHold, ErrorsShown, NotEmpty, RepeatsChange, owed, tagWith, counterTag, eight, begin, got, starred, errors, xorWrite, nameWrite, xorState, nameState}
 
 -- all of them under one list of what is opened

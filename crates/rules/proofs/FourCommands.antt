@@ -15,7 +15,7 @@ use Rattle.rules.specs.declared.Place.the-variants.{RegisterOf, Header, 
 use Rattle.rules.specs.Bytes.{put, number, same, part, bytesOf}
 use Rattle.rules.specs.Map.{sound, placeOf, segments, registerAt, registerNo, counter, flag, segmentAt, unitAt, pinAt}
 use Rattle.rules.specs.Units.{wellFormed, unitBytes, unitOf, formedness}
-use Rattle.rules.specs.State.{Cipher, State, withPa, pinIndex, pin, response, withRead, encipheredCounter}
+use Rattle.rules.specs.State.{Cipher, State, withPa, pin, pinIndex, response, withRead, encipheredCounter}
 use Rattle.rules.specs.Refusals.{lowest, writeChecks, registerChecks, plainChecks, headerWriteChecks, isNext, responseChecks, readChecks, segmentReadChecks}
 use Rattle.rules.specs.Effects.{apply, writeStores, writeSession, registerStores, registerSession}
 use Rattle.rules.specs.Command.{write, refusal, checks, inPlace, done, reply, after, replyBy, afterBy, grant, stores, storesIn, newSession, sessionIn, read, gives}

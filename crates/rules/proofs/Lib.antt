@@ -19,3 +19,4 @@ pub mod LogDemand3
 pub mod FourCommands
 pub mod Examples
 pub mod Moves
+pub mod Theorems

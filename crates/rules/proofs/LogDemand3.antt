@@ -27,8 +27,8 @@ is-list : (E : Cipher) (s : State) (log : List ℕ) (room : ℕ) → Ends E s lo
     × (runLog E s log room .state ≡ final E s (commands log))
 unfolding runLog
 is-list E s log room e =
-    let x = run-is-list E s (parsed 0 log) room (e .ends) in
-    let y = run-reads-all E s 0 log room (omega arith) (e .ends) in
+    let x = run-is-list E s (parsed 0 log) room e in
+    let y = run-reads-all E s 0 log room (omega arith) e in
     (sym (add-zero _) ∙ y, x .0, x .1)
 
 pub log-demand-3 : (E : Cipher) (s : State) → sound (s .tag) ≡ true → LogDemand3 E s

@@ -10,7 +10,7 @@ use Rattle.rules.specs.Bytes.{zeros, part, put, number}
 use Rattle.rules.specs.Map.{most, unitAt, segmentsAt, segments, managements, segmentAt, publics, flag, pinAt, sound, soundness}
 use Rattle.rules.specs.Claims.{Sizes}
 use Rattle.rules.proofs.Tests.{all-true, all-and, all-none}
-use Rattle.rules.proofs.BytesLaws.{Apart, part-put, byte-put-out, byte-put, length-put}
+use Rattle.rules.proofs.BytesLaws.{Apart, part-put, byte-put, byte-put-out, length-put}
 
 -- all that the proofs know of where the segments begin: the units end before
 pub units-fit : (A : ℕ) → A ≤ most → unitAt A ≤ segmentsAt A

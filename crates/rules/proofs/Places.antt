@@ -13,7 +13,7 @@ use borrow.Author.Tests.{leb-true, ltb-true, le-leb, lt-ltb}
 use Rattle.rules.specs.declared.Place.{Place}
 use Rattle.rules.specs.declared.Place.the-variants.{Header, Hidden, RegisterOf, Pins, Readers, UnitOf, Spare, Segment, Public}
 use Rattle.rules.specs.Map.{Row, row, liesIn, find, rows, most, segmentAt, unitAt, segmentsAt, segments, placeOf, publics, sound, registerNo, registerAt, pinAt}
-use Rattle.rules.specs.Claims.{Within, Holds, MapExact}
+use Rattle.rules.specs.Claims.{Within, Holds, TheMap}
 use Rattle.rules.proofs.Tests.{and-true, some-none, same-some}
 use Rattle.rules.proofs.BytesLaws.{Apart}
 use Rattle.rules.proofs.MapLaws.{units-fit, sound-facts}
@@ -46,6 +46,22 @@ within-after (row start size count place ∷ rs) from upto a n p h (inr w) =
 
 mul-next : (n i : ℕ) → n * (i + 1) ≡ n * i + n
 mul-next n i = let e : i + 1 ≡ suc i = omega arith in ap (λ k. n * k) e ∙ mul-suc n i
+
+adjoin-up : (rs : List Row) (from upto : ℕ) → Adjoin from upto rs → from ≤ upto
+adjoin-up [] from upto h = omega (arith, h)
+adjoin-up (row start size count place ∷ rs) from upto h =
+    let x = adjoin-up rs (start + size * count) upto (h .1) in let e = h .0 in omega arith
+
+within-end : (rs : List Row) (from upto a n : ℕ) (p : Place) → Adjoin from upto rs → Within p a n rs → a + n ≤ upto
+within-end [] from upto a n p h w = absurd w
+within-end (row start size count place ∷ rs) from upto a n p h (inl w) =
+    let x = adjoin-up rs (start + size * count) upto (h .1) in
+    let i = w .0 in
+    let m : size * suc i ≤ size * count = mul-le-mul-left size (w .1) in
+    let d : size * suc i ≡ size * i + size = mul-suc size i in
+    let b = w .4 in
+    omega arith
+within-end (row start size count place ∷ rs) from upto a n p h (inr w) = within-end rs _ upto a n p (h .1) w
 
 -- what lies within a later row does not lie in this one
 not-here : (start size count i a n : ℕ) → 1 ≤ n → start + size * count ≤ a → liesIn start size count i a n ≡ false
@@ -141,7 +157,7 @@ place-holds t p a n e = find-within (rows (segments t) (publics t)) a n p e
 one-place : (t : List ℕ) (p q : Place) (a n : ℕ) → segments t ≤ most → 1 ≤ n → Holds t p a n → Holds t q a n → p ≡ q
 one-place t p q a n h l x y = same-some (sym (place-found t p a n h l x) ∙ place-found t q a n h l y)
 
-pub the-map : MapExact
+pub the-map : (t : List ℕ) → sound t ≡ true → TheMap t
 the-map t w =
     let f = sound-facts t w in
     let h = f .most-segments in
@@ -152,6 +168,8 @@ the-map t w =
       every-byte = λ a b.
           let x = cover (rows (segments t) (publics t)) _ _ a (rows-adjoin _ _ h) (omega arith) (rw (← (f .long)) b) in
           (x .0, place-found t (x .0) a 1 h (omega arith) (x .1));
+      in-tag = λ p a n e.
+          rw (f .long) (within-end (rows (segments t) (publics t)) _ _ a n p (rows-adjoin _ _ h) (place-holds t p a n e));
     }
 
 -- ---- which place it is

@@ -15,7 +15,7 @@ use Rattle.rules.specs.Map.{segments, publics, sound, placeOf}
 use Rattle.rules.specs.State.{Cipher, State}
 use Rattle.rules.specs.Refusals.{Checks, granted, _when_else_, lowest, writeChecks, segmentWriteChecks}
 use Rattle.rules.specs.Effects.{Store, refusalStores, writeSession, apply}
-use Rattle.rules.specs.Command.{Command, read, write, refusal, checks, inPlace, stores, afterBy, after, newSession, sessionIn}
+use Rattle.rules.specs.Command.{Command, read, write, refusal, checks, inPlace, stores, after, afterBy, newSession, sessionIn}
 use Rattle.rules.specs.Claims.{Applies, Holds}
 use Rattle.rules.proofs.Tests.{some-none, or-false, same-some}
 use Rattle.rules.proofs.StoreLaws.{Each}

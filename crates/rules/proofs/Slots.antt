@@ -19,10 +19,10 @@ use Rattle.rules.specs.Units.{unitBytes, unitOf}
 use Rattle.rules.specs.State.{Cipher, State}
 use Rattle.rules.specs.Refusals.{lowest, writeChecks}
 use Rattle.rules.specs.Effects.{Store, _↤_, writeStores, stored, writeMove, apply}
-use Rattle.rules.specs.Command.{write, grant, refusal, stores, refused, Command, read, advance, powerUp, done, Reply, replyBy, reply, gives, after}
+use Rattle.rules.specs.Command.{write, grant, refusal, stores, refused, Command, read, advance, powerUp, done, Reply, reply, replyBy, gives, after}
 use Rattle.rules.specs.Demand3.{slot, valueAt, CounterSegment, counted, LockedCounter}
-use Rattle.rules.specs.Claims.{Holds, ownMove}
-use Rattle.rules.proofs.BytesLaws.{Apart, part-put, part-put-same}
+use Rattle.rules.specs.Claims.{Holds, OwnMover, ownMove}
+use Rattle.rules.proofs.BytesLaws.{Apart, part-put-same, part-put}
 use Rattle.rules.proofs.StoreLaws.{Each, Off, each-map, apply-part}
 use Rattle.rules.proofs.MapLaws.{sound-long}
 use Rattle.rules.proofs.Places.{placed, places-apart, segment-holds, controlled, place-holds, at-segment}
@@ -183,10 +183,11 @@ locked-stays E s k c w lc =
     }
   where
     same-unit : (unitBytes (after E s c .tag) k ≡ unitBytes (s .tag) k)
-        ⊎ (unitBytes (after E s c .tag) k
-        ≡ put 0 (ownMove (unitOf (unitBytes (s .tag) k) .model) (unitBytes (s .tag) k)) (unitBytes (s .tag) k))
+        ⊎ (OwnMover s k c × (refusal E s c ≡ none)
+        × (unitBytes (after E s c .tag) k
+        ≡ put 0 (ownMove (unitOf (unitBytes (s .tag) k) .model) (unitBytes (s .tag) k)) (unitBytes (s .tag) k)))
         → unitBytes (after E s c .tag) k ≡ unitBytes (s .tag) k
     same-unit (inl e) = e
     same-unit (inr e) =
-        e ∙ ap (λ m. put 0 (ownMove m (unitBytes (s .tag) k)) (unitBytes (s .tag) k)) (lc .counter .counts)
+        e .2 ∙ ap (λ m. put 0 (ownMove m (unitBytes (s .tag) k)) (unitBytes (s .tag) k)) (lc .counter .counts)
         ∙ (unfold ownMove in put-none (unitBytes (s .tag) k))

@@ -1,4 +1,4 @@
--- What else is claimed of the rules, for every cipher `E` and state `s`. Assumes nothing.
+-- What is claimed of the rules beside demand 3. Theorems.antt says of which ciphers, states and commands. Assumes nothing.
 use Prim.Native.Nat.{ℕ, _+_, _-_, _*_, _/_, _%_, _≤_, _<_}
 use mathlib.Core.Path.{_≡_}
 use mathlib.Core.Logic.{_≢_, _⊎_}
@@ -9,16 +9,18 @@ use lib.ListN.{length, drop, replicate}
 use Rattle.rules.specs.declared.Model.{Model}
 use Rattle.rules.specs.declared.Model.the-variants.{Default, WriteOnce, Counter, Receiver}
 use Rattle.rules.specs.declared.Place.{Place}
+use Rattle.rules.specs.declared.Place.the-variants.{Segment}
 use Rattle.rules.specs.declared.Refusal.{Refusal}
 use Rattle.rules.specs.declared.Stop.the-variants.{End, BadCommand, OutputFull}
 use Rattle.rules.specs.Bytes.{byte, put, part}
-use Rattle.rules.specs.Map.{Row, row, rows, segments, publics, placeOf, sound, flag}
+use Rattle.rules.specs.Map.{Row, row, rows, segments, publics, placeOf, flag, sound}
 use Rattle.rules.specs.Units.{unitBytes, unitOf, bit}
 use Rattle.rules.specs.State.{Cipher, State}
 use Rattle.rules.specs.Answers.{numberOf}
 use Rattle.rules.specs.Refusals.{Checks, granted, _when_else_}
 use Rattle.rules.specs.Effects.{readOnly, advanced}
-use Rattle.rules.specs.Command.{Command, refusal, checks, reply, refused, filled, after, powerUp}
+use Rattle.rules.specs.Command.{Command, refusal, checks, reply, refused, filled, after, read, advance, write, powerUp}
+use Rattle.rules.specs.Run.{replies}
 use Rattle.rules.specs.Log.{runLog, stopped, first, encoded, roomFor, onward, commands}
 
 -- ---- "A command must lie wholly inside one place of the map."
@@ -34,20 +36,18 @@ abbrev pub Holds : List ℕ → Place → ℕ → ℕ → Type 0
 Holds t p a n = Within p a n (rows (segments t) (publics t))
 
 -- a range that lies wholly inside one place is found in that place, and no other range is found; no two places share
--- a byte; and each byte of the tag is in a place
+-- a byte; each byte of the tag is in a place, and no place reaches beyond the tag
 pub record TheMap (t : List ℕ) : Type 0 where
   pub found : (p : Place) (a n : ℕ) → 1 ≤ n → Holds t p a n → placeOf t a n ≡ some p
   pub no-other : (p : Place) (a n : ℕ) → placeOf t a n ≡ some p → Holds t p a n
   pub one-place : (p q : Place) (a n : ℕ) → 1 ≤ n → Holds t p a n → Holds t q a n → p ≡ q
   pub every-byte : (a : ℕ) → a < length t → (p : Place) × (placeOf t a 1 ≡ some p)
+  pub in-tag : (p : Place) (a n : ℕ) → placeOf t a n ≡ some p → a + n ≤ length t
 
 -- "Smallest 20,480 bytes, largest 1,064,960."
 pub record Sizes (t : List ℕ) : Type 0 where
   pub smallest : 20480 ≤ length t
   pub largest : length t ≤ 1064960
-
-abbrev pub MapExact : Type 0
-MapExact = (t : List ℕ) → sound t ≡ true → TheMap t
 
 -- ---- "The lowest refusal number that applies is given."
 
@@ -96,10 +96,19 @@ ownMove WriteOnce u = readOnly (byte 0 u) ∷ []
 ownMove Counter u = []
 ownMove (Receiver g) u = advanced (Receiver g) u
 
+-- the commands that make it: a write in segment k, and its advance
+abbrev pub OwnMover : State → ℕ → Command → Type 0
+OwnMover s k (read a n room) = ⊥
+OwnMover s k (write a bs) = placeOf (s .tag) a (length bs) ≡ some (Segment k)
+OwnMover s k (advance m) = m ≡ k
+OwnMover s k powerUp = ⊥
+
+-- the unit of segment k stays as it is, or its model makes its move
 pub record LockedUnit (E : Cipher) (s : State) (k : ℕ) (c : Command) : Type 0 where
   pub moves : (unitBytes (after E s c .tag) k ≡ unitBytes (s .tag) k)
-      ⊎ (unitBytes (after E s c .tag) k
-      ≡ put 0 (ownMove (unitOf (unitBytes (s .tag) k) .model) (unitBytes (s .tag) k)) (unitBytes (s .tag) k))
+      ⊎ (OwnMover s k c × (refusal E s c ≡ none)
+      × (unitBytes (after E s c .tag) k
+      ≡ put 0 (ownMove (unitOf (unitBytes (s .tag) k) .model) (unitBytes (s .tag) k)) (unitBytes (s .tag) k)))
 
 -- the bits of a control byte, RD first
 abbrev pub bits : ℕ → List Bool
@@ -123,6 +132,11 @@ pub record PowerUpClears (E : Cipher) (s : State) : Type 0 where
   pub name-zeros : after E s powerUp .session .name ≡ replicate 16 0
   pub id-zeros : after E s powerUp .session .id ≡ replicate 16 0
   pub pa-zeros : after E s powerUp .session .pa ≡ replicate 16 0
+
+-- ---- every command of a list gets one answer
+
+abbrev pub OneAnswerEach : Cipher → State → List Command → Type 0
+OneAnswerEach E s cs = length (replies E s cs) ≡ length cs
 
 -- ---- a log is its commands, one after another
 

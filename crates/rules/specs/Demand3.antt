@@ -1,5 +1,5 @@
--- Demand 3 as a statement, in the senses of document 01, "How tight the answers are": `Demand3 E s` is to hold for
--- every cipher `E` and every state `s` whose tag is sound, and `LogDemand3 E s` too. Assumes nothing.
+-- Demand 3 as a statement, in the senses of document 01, "How tight the answers are": for lists of commands, and for
+-- log runs. It is to hold for every cipher `E` and every state `s` whose tag is sound. Assumes nothing.
 use Prim.Native.Nat.{ℕ, _+_, _≤_, _<_}
 use mathlib.Core.Path.{_≡_}
 use mathlib.Core.Logic.{_≢_}
@@ -15,7 +15,7 @@ use Rattle.rules.specs.Units.{wellFormed, unitBytes, unitOf}
 use Rattle.rules.specs.State.{Cipher, State}
 use Rattle.rules.specs.Command.{Command, Reply, read, write, done, gives, refused, advance, powerUp, after, reply}
 use Rattle.rules.specs.Run.{final, replies}
-use Rattle.rules.specs.Log.{runLog, encodedAll, encoded, commands}
+use Rattle.rules.specs.Log.{runLog, encoded, encodedAll, commands}
 
 -- ---- counter segments and their slots
 
@@ -149,8 +149,8 @@ pub record Demand3 (E : Cipher) (s : State) : Type 0 where
 -- ---- "Of a log run, whose commands are the list and whose replies are the answers, it speaks only where no 15 or 16
 -- stops the run, with or without the copies and in either order."
 
-pub record Ends (E : Cipher) (s : State) (log : List ℕ) (room : ℕ) : Type 0 where
-  pub ends : runLog E s log room .stop ≡ End
+abbrev pub Ends : Cipher → State → (log : List ℕ) (room : ℕ) → Type 0
+Ends E s log room = runLog E s log room .stop ≡ End
 
 pub record LogDemand3 (E : Cipher) (s : State) : Type 0 where
   -- the run is that of the list: it reads the whole log, its output is the answers, and its end state is the list's

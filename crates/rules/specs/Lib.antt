@@ -13,3 +13,4 @@ pub mod Demand3
 pub mod Claims
 pub mod FourCommands
 pub mod Examples
+pub mod Theorems

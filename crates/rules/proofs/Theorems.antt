@@ -1,0 +1,37 @@
+-- All that is proved of the rules.
+use Rattle.rules.specs.Theorems.{Theorems}
+use Rattle.rules.proofs.MapLaws.{sizes}
+use Rattle.rules.proofs.Places.{the-map}
+use Rattle.rules.proofs.Lawful.{sound-stays}
+use Rattle.rules.proofs.Locked.{locked-unit}
+use Rattle.rules.proofs.Counting.{one-answer-each}
+use Rattle.rules.proofs.Refused.{lowest-given, refusal-named, refused-changes-nothing}
+use Rattle.rules.proofs.Demand3.{demand-3}
+use Rattle.rules.proofs.LogLaws.{log-is-its-commands}
+use Rattle.rules.proofs.LogDemand3.{log-demand-3}
+use Rattle.rules.proofs.FourCommands.{host-reads}
+use Rattle.rules.proofs.Examples.{starred-hold, errors-shown, not-empty, repeats-change}
+use Rattle.rules.proofs.Moves.{moves-exact, power-up-clears}
+
+pub theorems : Theorems
+theorems =
+    record {
+      demand-3 = demand-3;
+      log-demand-3 = log-demand-3;
+      lowest-given = lowest-given;
+      refusal-named = refusal-named;
+      refused-changes-nothing = refused-changes-nothing;
+      the-map = the-map;
+      sizes = sizes;
+      sound-stays = sound-stays;
+      locked-unit = locked-unit;
+      moves-exact = moves-exact;
+      power-up-clears = power-up-clears;
+      host-reads = host-reads;
+      one-answer-each = one-answer-each;
+      log-is-its-commands = log-is-its-commands;
+      starred-hold = starred-hold;
+      errors-shown = errors-shown;
+      not-empty = not-empty;
+      repeats-change = repeats-change;
+    }

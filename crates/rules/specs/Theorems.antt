@@ -1,0 +1,43 @@
+-- All that is proved of the rules, in one record. Each line says of which ciphers, states and commands a claim holds; the claims
+-- themselves stand in Demand3, Claims, FourCommands and Examples. Assumes nothing.
+use Prim.Native.Nat.{ℕ, _<_}
+use mathlib.Core.Path.{_≡_}
+use mathlib.Core.Bool.{true}
+use mathlib.Core.List.{List}
+use mathlib.Core.Option.{some}
+use Rattle.rules.specs.Map.{sound, segments}
+use Rattle.rules.specs.Units.{unitOf, unitBytes}
+use Rattle.rules.specs.State.{Cipher, State}
+use Rattle.rules.specs.Command.{Command, refusal}
+use Rattle.rules.specs.Demand3.{Demand3, LogDemand3}
+use Rattle.rules.specs.Claims.{LowestGiven, RefusalNamed, RefusedChangesNothing, TheMap, Sizes, SoundStays, LockedUnit, MovesExact, PowerUpClears, OneAnswerEach, LogIsItsCommands}
+use Rattle.rules.specs.FourCommands.{HostReads}
+use Rattle.rules.specs.Examples.{StarredHold, ErrorsShown, NotEmpty, RepeatsChange}
+
+pub record Theorems : Type 0 where
+  -- demand 3, for lists of commands and for log runs
+  pub demand-3 : (E : Cipher) (s : State) → sound (s .tag) ≡ true → Demand3 E s
+  pub log-demand-3 : (E : Cipher) (s : State) → sound (s .tag) ≡ true → LogDemand3 E s
+  -- refusals
+  pub lowest-given : (E : Cipher) (s : State) (c : Command) → LowestGiven E s c
+  pub refusal-named : (E : Cipher) (s : State) (c : Command) (n : ℕ) → refusal E s c ≡ some n → RefusalNamed n
+  pub refused-changes-nothing : (E : Cipher) (s : State) (c : Command) (n : ℕ) → refusal E s c ≡ some n
+      → RefusedChangesNothing E s c n
+  -- the tag
+  pub the-map : (t : List ℕ) → sound t ≡ true → TheMap t
+  pub sizes : (t : List ℕ) → sound t ≡ true → Sizes t
+  pub sound-stays : (E : Cipher) (s : State) (c : Command) → sound (s .tag) ≡ true → SoundStays E s c
+  pub locked-unit : (E : Cipher) (s : State) (k : ℕ) (c : Command) → sound (s .tag) ≡ true → k < segments (s .tag)
+      → unitOf (unitBytes (s .tag) k) .ne ≡ true → LockedUnit E s k c
+  pub moves-exact : (b : ℕ) → b < 256 → MovesExact b
+  -- the session
+  pub power-up-clears : (E : Cipher) (s : State) → PowerUpClears E s
+  pub host-reads : HostReads
+  -- lists and logs
+  pub one-answer-each : (E : Cipher) (s : State) (cs : List Command) → OneAnswerEach E s cs
+  pub log-is-its-commands : (E : Cipher) (s : State) (room : ℕ) → LogIsItsCommands E s room
+  -- examples
+  pub starred-hold : StarredHold
+  pub errors-shown : ErrorsShown
+  pub not-empty : NotEmpty
+  pub repeats-change : RepeatsChange
