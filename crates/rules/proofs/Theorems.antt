@@ -10,7 +10,7 @@ use Rattle.rules.proofs.Demand3.{demand-3}
 use Rattle.rules.proofs.LogLaws.{log-is-its-commands}
 use Rattle.rules.proofs.LogDemand3.{log-demand-3}
 use Rattle.rules.proofs.FourCommands.{host-reads}
-use Rattle.rules.proofs.Examples.{starred-hold, errors-shown, not-empty, repeats-change}
+use Rattle.rules.proofs.Examples.{starred-hold, errors-shown, readings-hold, not-empty, repeats-change}
 use Rattle.rules.proofs.Moves.{moves-exact, power-up-clears}
 
 pub theorems : Theorems
@@ -32,6 +32,7 @@ theorems =
       log-is-its-commands = log-is-its-commands;
       starred-hold = starred-hold;
       errors-shown = errors-shown;
+      readings-hold = readings-hold;
       not-empty = not-empty;
       repeats-change = repeats-change;
     }

@@ -1,4 +1,5 @@
--- What is claimed of the rules beside demand 3. Theorems.antt says of which ciphers, states and commands. Assumes nothing.
+-- What is claimed of the rules beside demand 3. Theorems.antt says of which ciphers, states and commands. Assumes
+-- nothing.
 use Prim.Native.Nat.{ℕ, _+_, _-_, _*_, _/_, _%_, _≤_, _<_}
 use mathlib.Core.Path.{_≡_}
 use mathlib.Core.Logic.{_≢_, _⊎_}

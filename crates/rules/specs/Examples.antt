@@ -5,9 +5,11 @@ use mathlib.Core.Logic.{_≢_}
 use mathlib.Core.Bool.{true}
 use mathlib.Core.List.{List, [], _∷_, _++_, map}
 use lib.ListN.{replicate}
+use Rattle.rules.specs.declared.Stop.{Stop}
+use Rattle.rules.specs.declared.Stop.the-variants.{End}
 use Rattle.rules.specs.Bytes.{put}
 use Rattle.rules.specs.Map.{registerAt, sound}
-use Rattle.rules.specs.State.{Cipher, State, withPa, poweredUp}
+use Rattle.rules.specs.State.{Cipher, State, poweredUp, withPa}
 use Rattle.rules.specs.Command.{Command, Reply, write, done, refused, read, gives, advance, powerUp}
 use Rattle.rules.specs.Run.{replies, final}
 use Rattle.rules.specs.Log.{runLog}
@@ -28,52 +30,53 @@ eight x y = 0 ∷ 0 ∷ 0 ∷ 0 ∷ 0 ∷ 0 ∷ x ∷ y ∷ []
 abbrev pub noCipher : Cipher
 noCipher = λ key block. block
 
--- after power-up, with this PA
-unfoldable pub begin : List ℕ → List ℕ → State
-begin pa t = record { tag = t; session = withPa pa poweredUp }
+-- after power-up, and with PA naming a PIN index in its first two bytes
+unfoldable pub begin : List ℕ → State
+begin t = record { tag = t; session = poweredUp }
 
--- a log or a list of commands on a tag, and what is owed; the PA names a PIN index in two bytes
+unfoldable pub naming : (high low : ℕ) → List ℕ → State
+naming high low t = record { tag = t; session = withPa (high ∷ low ∷ replicate 14 0) poweredUp }
+
+-- what is sent from a state, and what is owed: answers to commands, or bytes read, bytes written and stop of a log
+-- run in `room` bytes
 pub data Example : Type 0 where
-  byLog : (tag log output : List ℕ) → Example
-  byList : (tag : List ℕ) → List Command → List Reply → Example
-  byPa : (high low : ℕ) (tag : List ℕ) → List Command → List Reply → Example
+  sends : State → List Command → List Reply → Example
+  runs : (room : ℕ) → State → List ℕ → (taken : ℕ) → List ℕ → Stop → Example
 
 pub data Got : Type 0 where
-  bytes : List ℕ → Got
-  list : List Reply → Got
+  answers : List Reply → Got
+  ran : ℕ → List ℕ → Stop → Got
 
 unfoldable pub got : Example → Got
-got (byLog t log out) = bytes (runLog noCipher (begin (replicate 16 0) t) log 4096 .output)
-got (byList t cs rs) = list (replies noCipher (begin (replicate 16 0) t) cs)
-got (byPa x y t cs rs) = list (replies noCipher (begin (x ∷ y ∷ replicate 14 0) t) cs)
+got (sends s cs rs) = answers (replies noCipher s cs)
+got (runs room s log n out x) =
+    ran (runLog noCipher s log room .taken) (runLog noCipher s log room .output) (runLog noCipher s log room .stop)
 
 unfoldable pub owed : Example → Got
-owed (byLog t log out) = bytes out
-owed (byList t cs rs) = list rs
-owed (byPa x y t cs rs) = list rs
+owed (sends s cs rs) = answers rs
+owed (runs room s log n out x) = ran n out x
+
+abbrev pub Hold : List Example → Type 0
+Hold es = map got es ≡ map owed es
 
 unfoldable pub starred : List Example
 starred =
-    byLog counterTag
+    runs 12 (begin counterTag)
     (0x22 ∷ 0 ∷ 0 ∷ 0x40 ∷ 0 ∷ eight 0 1 ++ 0x22 ∷ 0 ∷ 0 ∷ 0x40 ∷ 0 ∷ eight 0 1 ++ 0x12 ∷ 0 ∷ 0 ∷ 0x40 ∷ 0 ∷ [])
-    (0x50 ∷ 0x51 ∷ 0x0C ∷ 0x42 ∷ eight 0 1)
-    ∷ byList (put 16384 (eight 0 255) counterTag) (write 16384 (eight 1 0) ∷ []) (done ∷ [])
-    ∷ byList (put 16384 (eight 0 255) counterTag) (write 16384 (eight 1 1) ∷ []) (refused 12 ∷ [])
-    ∷ byList (put 16384 (replicate 8 255) counterTag) (write 16384 (replicate 8 0) ∷ []) (refused 12 ∷ [])
-    ∷ byList counterTag (write 16388 (eight 0 1) ∷ []) (refused 12 ∷ [])
-    ∷ byList counterTag (read 16384 0 0 ∷ []) (refused 2 ∷ [])
-    ∷ byList counterTag (read 16383 2 2 ∷ []) (refused 3 ∷ [])
-    ∷ byList counterTag (read 3983 1 1 ∷ []) (refused 4 ∷ [])
-    ∷ byList (tagWith 0x21 0x01)
+    31 (0x50 ∷ 0x51 ∷ 0x0C ∷ 0x42 ∷ eight 0 1) End
+    ∷ sends (begin (put 16384 (eight 0 255) counterTag)) (write 16384 (eight 1 0) ∷ []) (done ∷ [])
+    ∷ sends (begin (put 16384 (eight 0 255) counterTag)) (write 16384 (eight 1 1) ∷ []) (refused 12 ∷ [])
+    ∷ sends (begin (put 16384 (replicate 8 255) counterTag)) (write 16384 (replicate 8 0) ∷ []) (refused 12 ∷ [])
+    ∷ sends (begin counterTag)
+    (write 16388 (eight 0 1) ∷ read 16384 0 0 ∷ read 16383 2 2 ∷ read 3983 1 1 ∷ [])
+    (refused 12 ∷ refused 2 ∷ refused 3 ∷ refused 4 ∷ [])
+    ∷ sends (begin (tagWith 0x21 0x01))
     (read 16384 1 1 ∷ write 16384 (7 ∷ []) ∷ read 16384 1 1 ∷ write 16384 (8 ∷ []) ∷ [])
     (refused 6 ∷ done ∷ gives (7 ∷ []) ∷ refused 6 ∷ [])
-    ∷ byPa 1 0 (put 12 (1 ∷ []) counterTag) (write (registerAt 0) (replicate 16 0) ∷ []) (refused 9 ∷ [])
-    ∷ byPa 0 255 (put 12 (1 ∷ []) counterTag) (write (registerAt 0) (replicate 16 0) ∷ []) (refused 10 ∷ [])
-    ∷ byList (tagWith 0x81 0x23) (advance 0 ∷ []) (refused 14 ∷ [])
+    ∷ sends (naming 1 0 (put 12 (1 ∷ []) counterTag)) (write (registerAt 0) (replicate 16 0) ∷ []) (refused 9 ∷ [])
+    ∷ sends (naming 0 255 (put 12 (1 ∷ []) counterTag)) (write (registerAt 0) (replicate 16 0) ∷ []) (refused 10 ∷ [])
+    ∷ sends (begin (tagWith 0x81 0x23)) (advance 0 ∷ []) (refused 14 ∷ [])
     ∷ []
-
-abbrev pub StarredHold : Type 0
-StarredHold = map got starred ≡ map owed starred
 
 -- demand 3 is not empty: the first example's tag is sound, and its segment a locked counter segment
 pub record NotEmpty : Type 0 where
@@ -82,15 +85,15 @@ pub record NotEmpty : Type 0 where
 
 -- ---- "Errors that look right". 1 and 5 are among the examples above.
 
--- 2: after a wrong response the flag is set, and the same counter value takes no second guess, not even the right
--- one. 4: with index 7 validated (its PIN is zeros, and so is the counter), a unit that has RDPIN set and names 0
--- refuses 7, until 0 is validated again, or until power-up.
+-- 2: after a wrong response the flag is set, and the same counter value takes no second guess, not even the right one.
+-- 4: with index 7 validated (its PIN is zeros, and so is the counter), a unit that has RDPIN set and names 0 refuses 7,
+-- until 0 is validated again, or until power-up.
 unfoldable pub errors : List Example
 errors =
-    byList counterTag
+    sends (begin counterTag)
     (write (registerAt 0) (replicate 16 9) ∷ write (registerAt 0) (replicate 16 0) ∷ read 12 1 1 ∷ [])
     (refused 11 ∷ refused 10 ∷ gives (1 ∷ []) ∷ [])
-    ∷ byPa 0 7 (tagWith 0xC5 0x00)
+    ∷ sends (naming 0 7 (tagWith 0xC5 0x00))
     (write (registerAt 0) (replicate 16 0)
     ∷ read 16384 1 1
     ∷ write (registerAt 6) (replicate 16 0)
@@ -99,13 +102,10 @@ errors =
     ∷ read 16384 1 1
     ∷ [])
     (done ∷ refused 7 ∷ done ∷ done ∷ done ∷ gives (0 ∷ []) ∷ [])
-    ∷ byPa 0 7 (tagWith 0xC5 0x00)
+    ∷ sends (naming 0 7 (tagWith 0xC5 0x00))
     (write (registerAt 0) (replicate 16 0) ∷ read 16384 1 1 ∷ powerUp ∷ read 16384 1 1 ∷ [])
     (done ∷ refused 7 ∷ done ∷ gives (0 ∷ []) ∷ [])
     ∷ []
-
-abbrev pub ErrorsShown : Type 0
-ErrorsShown = map got errors ≡ map owed errors
 
 -- 3: "Calling a repeated XOR write or register write harmless." The second XOR write takes the first one back. The
 -- second NAME write, after the next counter value, sets the flag again and makes another name. Both are granted.
@@ -118,14 +118,15 @@ nameWrite = write (registerAt 3) (replicate 16 5)
 
 -- model 3 at stage 1
 unfoldable pub xorState : State
-xorState = begin (replicate 16 0) (tagWith 0x21 0x13)
+xorState = begin (tagWith 0x21 0x13)
 
 unfoldable pub nameState : State
-nameState = begin (replicate 16 0) counterTag
+nameState = begin counterTag
 
 pub record RepeatsChange : Type 0 where
   pub xor-granted : replies noCipher xorState (xorWrite ∷ xorWrite ∷ []) ≡ done ∷ done ∷ []
   pub xor-changes : final noCipher xorState (xorWrite ∷ xorWrite ∷ []) ≢ final noCipher xorState (xorWrite ∷ [])
-  pub name-granted : replies noCipher nameState (nameWrite ∷ write 4 (eight 0 1) ∷ nameWrite ∷ []) ≡ done ∷ done ∷ done ∷ []
+  pub name-granted : replies noCipher nameState (nameWrite ∷ write 4 (eight 0 1) ∷ nameWrite ∷ [])
+      ≡ done ∷ done ∷ done ∷ []
   pub name-changes : final noCipher nameState (nameWrite ∷ write 4 (eight 0 1) ∷ nameWrite ∷ [])
       ≢ final noCipher nameState (nameWrite ∷ write 4 (eight 0 1) ∷ [])

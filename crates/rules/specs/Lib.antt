@@ -13,4 +13,5 @@ pub mod Demand3
 pub mod Claims
 pub mod FourCommands
 pub mod Examples
+pub mod Readings
 pub mod Theorems

@@ -1,5 +1,5 @@
--- All that is proved of the rules, in one record. Each line says of which ciphers, states and commands a claim holds; the claims
--- themselves stand in Demand3, Claims, FourCommands and Examples. Assumes nothing.
+-- All that is proved of the rules, in one record. Each line says of which ciphers, states and commands a claim holds;
+-- the claims themselves stand in Demand3, Claims, FourCommands and Examples. Assumes nothing.
 use Prim.Native.Nat.{ℕ, _<_}
 use mathlib.Core.Path.{_≡_}
 use mathlib.Core.Bool.{true}
@@ -12,7 +12,8 @@ use Rattle.rules.specs.Command.{Command, refusal}
 use Rattle.rules.specs.Demand3.{Demand3, LogDemand3}
 use Rattle.rules.specs.Claims.{LowestGiven, RefusalNamed, RefusedChangesNothing, TheMap, Sizes, SoundStays, LockedUnit, MovesExact, PowerUpClears, OneAnswerEach, LogIsItsCommands}
 use Rattle.rules.specs.FourCommands.{HostReads}
-use Rattle.rules.specs.Examples.{StarredHold, ErrorsShown, NotEmpty, RepeatsChange}
+use Rattle.rules.specs.Examples.{starred, Hold, errors, NotEmpty, RepeatsChange}
+use Rattle.rules.specs.Readings.{readings}
 
 pub record Theorems : Type 0 where
   -- demand 3, for lists of commands and for log runs
@@ -37,7 +38,8 @@ pub record Theorems : Type 0 where
   pub one-answer-each : (E : Cipher) (s : State) (cs : List Command) → OneAnswerEach E s cs
   pub log-is-its-commands : (E : Cipher) (s : State) (room : ℕ) → LogIsItsCommands E s room
   -- examples
-  pub starred-hold : StarredHold
-  pub errors-shown : ErrorsShown
+  pub starred-hold : Hold starred
+  pub errors-shown : Hold errors
+  pub readings-hold : Hold readings
   pub not-empty : NotEmpty
   pub repeats-change : RepeatsChange

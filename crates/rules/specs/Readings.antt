@@ -1,0 +1,141 @@
+-- Where document 01 can be read in two ways: inputs that tell the readings apart, with the answers of the one that is
+-- taken. docs/DECISIONS.md has each question under the name used here. Assumes nothing.
+use Prim.Native.Nat.{ℕ}
+use mathlib.Core.List.{List, [], _∷_, _++_}
+use lib.ListN.{replicate}
+use Rattle.rules.specs.declared.Stop.the-variants.{OutputFull, End, BadCommand}
+use Rattle.rules.specs.Bytes.{put}
+use Rattle.rules.specs.Map.{registerAt}
+use Rattle.rules.specs.State.{withRead, poweredUp}
+use Rattle.rules.specs.Command.{write, done, refused, read, gives, advance, powerUp}
+use Rattle.rules.specs.Examples.{Example, sends, begin, counterTag, eight, tagWith, naming, runs}
+
+-- an address in unit 0 is 12288 and on, in segment 0 16384 and on
+unfoldable pub zeros16 : List ℕ
+zeros16 = replicate 16 0
+
+-- the counter stands in the block most significant byte first
+unfoldable pub counterOrder : List Example
+counterOrder =
+    sends (begin counterTag)
+    (write 4 (eight 0 1) ∷ write (registerAt 0) (replicate 15 0 ++ 1 ∷ []) ∷ [])
+    (done ∷ done ∷ [])
+    ∷ sends (begin counterTag)
+    (write 4 (eight 0 1) ∷ write (registerAt 0) (replicate 8 0 ++ 1 ∷ replicate 7 0) ∷ [])
+    (done ∷ refused 11 ∷ [])
+    ∷ []
+
+-- a unit that is model 3 may be edited at stage 1 where M, RD, WR and byte 1 stay; another becomes model 3 at stage 0
+-- only; with M clear byte 1 means nothing
+unfoldable pub modelThreeEdits : List Example
+modelThreeEdits =
+    sends (begin (tagWith 0x21 0x13))
+    (write 12304 (65 ∷ []) ∷ write 12289 (0x03 ∷ []) ∷ write 12288 (0x20 ∷ []) ∷ [])
+    (done ∷ refused 13 ∷ refused 13 ∷ [])
+    ∷ sends (begin (tagWith 0x20 0x13))
+    (write 12288 (0x21 ∷ []) ∷ write 12289 (0x03 ∷ []) ∷ write 12288 (0x21 ∷ []) ∷ [])
+    (refused 13 ∷ done ∷ done ∷ [])
+    ∷ sends (begin (tagWith 0xA0 0x00))
+    (write 12289 (0xFF ∷ []) ∷ read 12289 1 1 ∷ [])
+    (done ∷ gives (0xFF ∷ []) ∷ [])
+    ∷ []
+
+-- an advance gives 7 and 8 before 14, on every model, and never 6; a public segment's number is 3
+unfoldable pub advanceOrder : List Example
+advanceOrder =
+    sends (begin (put 12295 (7 ∷ []) (tagWith 0xB0 0x00))) (advance 0 ∷ []) (refused 7 ∷ [])
+    ∷ sends (begin (put 12304 (65 ∷ []) (tagWith 0x08 0x00))) (advance 0 ∷ []) (refused 8 ∷ [])
+    ∷ sends (begin (tagWith 0x00 0x00)) (advance 0 ∷ []) (refused 14 ∷ [])
+    ∷ sends (begin (put 3 (1 ∷ []) (put 1 (1 ∷ []) (replicate 24576 0)))) (advance 1 ∷ []) (refused 3 ∷ [])
+    ∷ []
+
+-- a covered name is covered for all: 6, although the session's name (zeros) is the unit's; an edit does not ask for
+-- the name; an ill-formed unit takes no edit, so none repairs it
+unfoldable pub coveredName : List Example
+coveredName =
+    sends (begin (tagWith 0x88 0x00)) (read 12288 17 17 ∷ read 12303 1 1 ∷ []) (refused 6 ∷ gives (0 ∷ []) ∷ [])
+    ∷ sends (begin (put 12304 (65 ∷ []) (tagWith 0x88 0x00))) (write 12293 (3 ∷ []) ∷ []) (done ∷ [])
+    ∷ sends (begin (tagWith 0x02 0x00)) (read 12288 1 1 ∷ write 12288 (0 ∷ []) ∷ []) (refused 5 ∷ refused 5 ∷ [])
+    ∷ []
+
+-- indexes over 255 are ill formed also where the PIN bits are clear; an edit index has no PIN bit, so once another
+-- index is validated a unit that names 0 takes no edit
+unfoldable pub indexRules : List Example
+indexRules =
+    sends (begin (put 12292 (1 ∷ []) (tagWith 0xA0 0x00))) (read 16384 1 1 ∷ []) (refused 5 ∷ [])
+    ∷ sends (naming 0 7 (tagWith 0xA0 0x00))
+    (write 12293 (3 ∷ []) ∷ write (registerAt 2) zeros16 ∷ write 12293 (4 ∷ []) ∷ [])
+    (done ∷ done ∷ refused 7 ∷ [])
+    ∷ sends (record { tag = tagWith 0xC0 0x00; session = withRead 300 poweredUp })
+    (read 16384 1 1 ∷ [])
+    (refused 7 ∷ [])
+    ∷ []
+
+-- a part of a register is 9 at any offset, no byte 2, beyond its end 3; ID and PA take the flag as it is; 9 and 10
+-- leave it; a wrong response leaves the index validated before; NAME gives no 11
+unfoldable pub registerRules : List Example
+registerRules =
+    sends (begin counterTag)
+    (write 3992 (eight 0 0) ∷ write 3984 [] ∷ write 3984 (replicate 17 0) ∷ [])
+    (refused 9 ∷ refused 2 ∷ refused 3 ∷ [])
+    ∷ sends (begin (put 12 (1 ∷ []) counterTag))
+    (write (registerAt 4) zeros16 ∷ write (registerAt 6) zeros16 ∷ read 12 1 1 ∷ [])
+    (done ∷ done ∷ gives (1 ∷ []) ∷ [])
+    ∷ sends (naming 1 0 counterTag)
+    (write (registerAt 0) zeros16 ∷ read 12 1 1 ∷ [])
+    (refused 9 ∷ gives (0 ∷ []) ∷ [])
+    ∷ sends (naming 0 7 (put 12293 (7 ∷ []) (tagWith 0xC0 0x00)))
+    (write (registerAt 0) zeros16 ∷ write 4 (eight 0 1) ∷ write (registerAt 0) zeros16 ∷ read 16384 1 1 ∷ [])
+    (done ∷ done ∷ refused 11 ∷ gives (0 ∷ []) ∷ [])
+    ∷ sends (begin counterTag) (write (registerAt 3) (replicate 16 9) ∷ []) (done ∷ [])
+    ∷ []
+
+-- index 0 may be validated, by PIN 0; a COMMIT may store zeros, and an owner PIN of zeros is a key like any other;
+-- the owner index matters at COMMIT alone
+unfoldable pub pinRules : List Example
+pinRules =
+    sends (begin counterTag) (write (registerAt 0) zeros16 ∷ []) (done ∷ [])
+    ∷ sends (naming 0 1 counterTag) (write (registerAt 5) zeros16 ∷ []) (done ∷ [])
+    ∷ sends (begin counterTag)
+    (write (registerAt 6) (0 ∷ 1 ∷ 0 ∷ 4 ∷ replicate 12 0) ∷ write (registerAt 5) zeros16 ∷ write (registerAt 0) zeros16 ∷ [])
+    (done ∷ refused 9 ∷ done ∷ [])
+    ∷ []
+
+-- 2 comes before 3 to 8; a write may have 1 to 4,096 bytes
+unfoldable pub countFirst : List Example
+countFirst =
+    sends (begin counterTag)
+    (read 100 4 3 ∷ read 20480 1 0 ∷ write 16384 (replicate 4097 0) ∷ [])
+    (refused 2 ∷ refused 2 ∷ refused 2 ∷ [])
+    ∷ []
+
+-- power-up is granted on a tag that is not sound; a tag too short for a header is not
+unfoldable pub shortTag : List Example
+shortTag = sends (begin (replicate 5 0)) (powerUp ∷ read 0 1 1 ∷ advance 0 ∷ []) (done ∷ refused 1 ∷ refused 1 ∷ []) ∷ []
+
+-- model 0 with M set is the default model; a command across two segments is 3, also between the last
+-- access-controlled one and the first public one
+unfoldable pub defaultModel : List Example
+defaultModel =
+    sends (begin (tagWith 0xA1 0x00))
+    (write 16389 (1 ∷ 2 ∷ []) ∷ read 16389 2 2 ∷ [])
+    (done ∷ gives (1 ∷ 2 ∷ []) ∷ [])
+    ∷ sends (begin (put 12288 (0x80 ∷ []) (put 3 (1 ∷ []) (put 1 (1 ∷ []) (replicate 24576 0)))))
+    (read 20479 2 2 ∷ read 20480 2 2 ∷ [])
+    (refused 3 ∷ gives (0 ∷ 0 ∷ []) ∷ [])
+    ∷ []
+
+-- a whole read needs 1 + count of room also where it is refused; a short body is a 15 and needs 2; a 15 without room
+-- is a 16 and writes nothing; the command that stops the run adds nothing to the bytes read
+unfoldable pub logRoom : List Example
+logRoom =
+    runs 8 (begin counterTag) (0x00 ∷ 0x12 ∷ 0 ∷ 0 ∷ 0 ∷ 16 ∷ []) 1 (0x50 ∷ []) OutputFull
+    ∷ runs 10 (begin counterTag) (0x00 ∷ 0x12 ∷ 0 ∷ 0 ∷ 0 ∷ 16 ∷ []) 6 (0x50 ∷ 0x51 ∷ 4 ∷ []) End
+    ∷ runs 3 (begin counterTag) (0x00 ∷ 0x14 ∷ 0 ∷ 0 ∷ 0 ∷ []) 1 (0x50 ∷ 0x51 ∷ 15 ∷ []) BadCommand
+    ∷ runs 2 (begin counterTag) (0x00 ∷ 0x15 ∷ []) 1 (0x50 ∷ []) OutputFull
+    ∷ []
+
+unfoldable pub readings : List Example
+readings =
+    counterOrder ++ modelThreeEdits ++ advanceOrder ++ coveredName ++ indexRules ++ registerRules ++ pinRules ++ countFirst
+    ++ shortTag ++ defaultModel ++ logRoom
