@@ -1,6 +1,6 @@
 -- XXTEA on blocks of bytes: 16 bytes give 16, and each direction undoes the other. Assumes nothing.
 use Prim.Native.Nat.{ℕ, zero, suc, _+_, _*_, _/_, _%_, _^_, _<_}
-use mathlib.Core.Path.{_≡_, refl, ap, _∙_}
+use mathlib.Core.Path.{_≡_, refl, ap, ap₂, _∙_}
 use mathlib.Core.List.{List, [], _∷_}
 use native.Mathlib.Nat.{mod-eq-of-lt}
 use native.Mathlib.Omega.{arith}
@@ -32,16 +32,14 @@ words-bytes : (ws : List ℕ) → Words ws → wordsOf (bytesOf ws) ≡ ws
 unfolding wordsOf bytesOf
 words-bytes [] h = refl
 words-bytes (w ∷ ws) h =
-    let l : w < 2 ^ 32 = h 0 (omega arith) in
-    let e : w % 2 ^ 8 + 2 ^ 8 * (w / 2 ^ 8 % 2 ^ 8) + 2 ^ 16 * (w / 2 ^ 16 % 2 ^ 8) + 2 ^ 24 * (w / 2 ^ 24 % 2 ^ 8) ≡ w = joined w l in
-    rw (e, words-bytes ws (λ i q. h (suc i) (omega arith)))
+    ap₂ {C = List ℕ} (λ v vs. v ∷ vs) (joined w (h 0 (omega arith))) (words-bytes ws (λ i q. h (suc i) (omega arith)))
   where
-    joined : (w : ℕ) → w < 4294967296
-        → w % 256 + 256 * (w / 256 % 256) + 65536 * (w / 65536 % 256) + 16777216 * (w / 16777216 % 256) ≡ w
+    joined : (w : ℕ) → w < 2 ^ 32
+        → w % 2 ^ 8 + 2 ^ 8 * (w / 2 ^ 8 % 2 ^ 8) + 2 ^ 16 * (w / 2 ^ 16 % 2 ^ 8) + 2 ^ 24 * (w / 2 ^ 24 % 2 ^ 8) ≡ w
     joined w l =
-        let a : w / 65536 ≡ w / 256 / 256 = omega arith in
-        let b : w / 16777216 ≡ w / 256 / 256 / 256 = omega arith in
-        let m : w / 256 / 256 / 256 % 256 ≡ w / 256 / 256 / 256 = mod-eq-of-lt (omega arith) in
+        let a : w / 2 ^ 16 ≡ w / 2 ^ 8 / 2 ^ 8 = omega arith in
+        let b : w / 2 ^ 24 ≡ w / 2 ^ 8 / 2 ^ 8 / 2 ^ 8 = omega arith in
+        let m : w / 2 ^ 8 / 2 ^ 8 / 2 ^ 8 % 2 ^ 8 ≡ w / 2 ^ 8 / 2 ^ 8 / 2 ^ 8 = mod-eq-of-lt (omega arith) in
         rw (a, b, m) (omega arith)
 
 bytes-words : (k : ℕ) (bs : List ℕ) → Bytes bs → length bs ≡ 4 * k → bytesOf (wordsOf bs) ≡ bs
