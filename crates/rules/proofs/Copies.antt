@@ -11,9 +11,9 @@ use Rattle.rules.specs.declared.Place.the-variants.{Segment}
 use Rattle.rules.specs.Bytes.{number}
 use Rattle.rules.specs.Map.{sound, segments}
 use Rattle.rules.specs.State.{State, Cipher}
-use Rattle.rules.specs.Command.{Command, write, after, refusal, replyBy, reply, grant, done, refused, Reply, gives}
+use Rattle.rules.specs.Command.{Command, write, after, refusal, reply, replyBy, grant, done, refused, Reply, gives}
 use Rattle.rules.specs.Run.{replies, final}
-use Rattle.rules.specs.Demand3.{slot, LockedCounter, valueAt, WritesLockedSlot, writes-slot, withGranted, Entry, CopiesOfGranted, AllRefused, copy, copyReplies, withCopies, own, ownReplies, withoutCopies, none-left, one-more}
+use Rattle.rules.specs.Demand3.{slot, LockedCounter, valueAt, WritesLockedSlot, writes-slot, withGranted, Entry, CopiesOfGranted, CopiesRefused, withCopies, withoutCopies, own, ownReplies, copyReplies, copy, none-left, one-more}
 use Rattle.rules.specs.Claims.{Holds}
 use Rattle.rules.proofs.Places.{segment-holds, controlled}
 use Rattle.rules.proofs.Grants.{reply-is}
@@ -111,10 +111,7 @@ reached-next E t s before d r =
     }
 
 copies-from : (E : Cipher) (t : List ℕ) (s : State) (before : List Command) (es : List Entry) → Reached t s before
-    → CopiesOfGranted E t s before es
-    → AllRefused (copyReplies es (replies E s (withCopies es)))
-    × (ownReplies es (replies E s (withCopies es)) ≡ replies E s (withoutCopies es))
-    × (final E s (withCopies es) ≡ final E s (withoutCopies es))
+    → CopiesOfGranted E t s before es → CopiesRefused E s es
 unfolding withCopies withoutCopies ownReplies copyReplies replies final
 copies-from E t s before [] r h = (none-left, refl, refl)
 copies-from E t s before (own c ∷ es) r h =
@@ -128,11 +125,8 @@ copies-from E t s before (copy c ∷ es) r h =
       ap (λ z. final E z (withCopies es)) (y .2) ∙ x .2,
     )
 
-pub copies-hold : (E : Cipher) (s : State) (es : List Entry) → sound (s .tag) ≡ true
-    → CopiesOfGranted E (s .tag) s [] es
-    → AllRefused (copyReplies es (replies E s (withCopies es)))
-    × (ownReplies es (replies E s (withCopies es)) ≡ replies E s (withoutCopies es))
-    × (final E s (withCopies es) ≡ final E s (withoutCopies es))
+pub copies-hold : (E : Cipher) (s : State) (es : List Entry) → sound (s .tag) ≡ true → CopiesOfGranted E (s .tag) s [] es
+    → CopiesRefused E s es
 copies-hold E s es w h = copies-from E (s .tag) s [] es start h
   where
     start : Reached (s .tag) s []

@@ -13,5 +13,5 @@ demand-3 E s w =
     record {
       counting = λ cs k j lc l. counting-holds E s cs k j _ w lc l refl;
       copies = λ es h. copies-hold E s es w h;
-      neighbours = λ before later c d h. neighbours-hold E s before later c d (final-sound E s before w) h;
+      neighbours = λ before c d later h. neighbours-hold E s before c d later (final-sound E s before w) h;
     }

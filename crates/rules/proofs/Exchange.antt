@@ -20,7 +20,7 @@ use Rattle.rules.specs.Refusals.{readChecks, writeChecks, lowest}
 use Rattle.rules.specs.Effects.{Store, _↤_, apply, writeStores}
 use Rattle.rules.specs.Command.{read, write, refusal, Command, checks, inPlace, stores, storesIn, grant, reply, replyBy, after, advance, powerUp, Reply}
 use Rattle.rules.specs.Run.{replies, final}
-use Rattle.rules.specs.Demand3.{Inside, MayChangePlaces, two-segments, two-slots, slot}
+use Rattle.rules.specs.Demand3.{Inside, MayChangePlaces, two-segments, two-slots, slot, SameEitherWay}
 use Rattle.rules.specs.Claims.{Holds}
 use Rattle.rules.proofs.Tests.{lowest-under}
 use Rattle.rules.proofs.BytesLaws.{Apart}
@@ -326,17 +326,10 @@ unfolding final
 final-append E s [] ds = refl
 final-append E s (c ∷ cs) ds = final-append E (after E s c) cs ds
 
-pub neighbours-hold : (E : Cipher) (s : State) (before later : List Command) (c d : Command)
-    → sound (final E s before .tag) ≡ true
-    → MayChangePlaces (final E s before .tag) c d
-    → (rs : List Reply)
-    × (replies E s (before ++ c ∷ d ∷ later)
-    ≡ replies E s before ++ reply E (final E s before) c ∷ reply E (final E s before) d ∷ rs)
-    × (replies E s (before ++ d ∷ c ∷ later)
-    ≡ replies E s before ++ reply E (final E s before) d ∷ reply E (final E s before) c ∷ rs)
-    × (final E s (before ++ c ∷ d ∷ later) ≡ final E s (before ++ d ∷ c ∷ later))
+pub neighbours-hold : (E : Cipher) (s : State) (before : List Command) (c d : Command) (later : List Command)
+    → sound (final E s before .tag) ≡ true → MayChangePlaces (final E s before .tag) c d → SameEitherWay E s before c d later
 unfolding replies final
-neighbours-hold E s before later c d w h =
+neighbours-hold E s before c d later w h =
     let m = final E s before in
     let x = exchange E m c d w h in (
       replies E (after E (after E m c) d) later,

@@ -5,13 +5,12 @@ use mathlib.Core.Bool.{true}
 use mathlib.Core.List.{List, [], _∷_, _++_, append-assoc}
 use native.Mathlib.Omega.{arith}
 use native.Mathlib.Nat.{add-zero}
-use lib.ListN.{length}
 use Rattle.rules.specs.Map.{sound}
 use Rattle.rules.specs.State.{Cipher, State}
 use Rattle.rules.specs.Command.{Reply}
 use Rattle.rules.specs.Run.{replies, final}
-use Rattle.rules.specs.Log.{encoded, encodedAll, runLog, commands, parsed}
-use Rattle.rules.specs.Demand3.{Ends, LogDemand3, valueAt, slot, withCopies}
+use Rattle.rules.specs.Log.{encoded, encodedAll, runLog, parsed, commands}
+use Rattle.rules.specs.Demand3.{Ends, IsList, LogDemand3, valueAt, slot, withCopies}
 use Rattle.rules.proofs.Demand3.{demand-3}
 use Rattle.rules.proofs.LogLaws.{run-is-list, run-reads-all}
 
@@ -21,10 +20,7 @@ encoded-append [] ys = refl
 encoded-append (x ∷ xs) ys =
     ap (λ r. encoded x ++ r) (encoded-append xs ys) ∙ sym (append-assoc (encoded x) (encodedAll xs) (encodedAll ys))
 
-is-list : (E : Cipher) (s : State) (log : List ℕ) (room : ℕ) → Ends E s log room
-    → (runLog E s log room .taken ≡ length log)
-    × (runLog E s log room .output ≡ encodedAll (replies E s (commands log)))
-    × (runLog E s log room .state ≡ final E s (commands log))
+is-list : (E : Cipher) (s : State) (log : List ℕ) (room : ℕ) → Ends E s log room → IsList E s log room
 unfolding runLog
 is-list E s log room e =
     let x = run-is-list E s (parsed 0 log) room e in
@@ -49,10 +45,10 @@ log-demand-3 E s w =
             x .1 ∙ ap (λ cs. encodedAll (replies E s cs)) p ∙ ap encodedAll (sym (c .1)),
             y .2 ∙ ap (final E s) q ∙ c .2 ∙ sym (ap (final E s) p) ∙ sym (x .2),
           );
-      neighbours = λ log other room room′ before later c e f g p q h.
+      neighbours = λ log other room room′ before c e later f g p q h.
           let x = is-list E s log room f in
           let y = is-list E s other room′ g in
-          let n = d .neighbours before later c e h in (
+          let n = d .neighbours before c e later h in (
             encodedAll (n .0),
             x .1 ∙ ap (λ cs. encodedAll (replies E s cs)) p ∙ ap encodedAll (n .1) ∙ encoded-append (replies E s before) _,
             y .1 ∙ ap (λ cs. encodedAll (replies E s cs)) q ∙ ap encodedAll (n .2) ∙ encoded-append (replies E s before) _,

@@ -125,26 +125,35 @@ pub data MayChangePlaces (t : List ℕ) : Command → Command → Type 0 where
 
 -- ---- the demand
 
+-- "holds its start value plus the number of granted writes to it": slot j of segment k
+abbrev pub Counts : Cipher → State → List Command → (k j : ℕ) → Type 0
+Counts E s cs k j =
+    valueAt (slot (s .tag) k j) (final E s cs .tag)
+    ≡ valueAt (slot (s .tag) k j) (s .tag) + grants (slot (s .tag) k j) cs (replies E s cs)
+
+-- "every copy is refused, and every other answer and the end state are the same as without them"
+abbrev pub CopiesRefused : Cipher → State → List Entry → Type 0
+CopiesRefused E s es =
+    AllRefused (copyReplies es (replies E s (withCopies es)))
+    × (ownReplies es (replies E s (withCopies es)) ≡ replies E s (withoutCopies es))
+    × (final E s (withCopies es) ≡ final E s (withoutCopies es))
+
+-- c and d "may change places, with the same answers and end state"; "each keeps its own answer"
+abbrev pub SameEitherWay : Cipher → State → (before : List Command) (c d : Command) (later : List Command) → Type 0
+SameEitherWay E s before c d later =
+    let r = reply E (final E s before) in
+    (rs : List Reply)
+    × (replies E s (before ++ c ∷ d ∷ later) ≡ replies E s before ++ r c ∷ r d ∷ rs)
+    × (replies E s (before ++ d ∷ c ∷ later) ≡ replies E s before ++ r d ∷ r c ∷ rs)
+    × (final E s (before ++ c ∷ d ∷ later) ≡ final E s (before ++ d ∷ c ∷ later))
+
+-- "each slot of a segment that at the start is a counter segment with a locked unit"; copies "of granted writes to such
+-- slots"; neighbours, where "what is a counter segment is judged just before the two"
 pub record Demand3 (E : Cipher) (s : State) : Type 0 where
-  -- "each slot of a segment that at the start is a counter segment with a locked unit holds its start value plus the
-  -- number of granted writes to it"
-  pub counting : (cs : List Command) (k j : ℕ) → LockedCounter (s .tag) k → j < 512
-      → valueAt (slot (s .tag) k j) (final E s cs .tag)
-      ≡ valueAt (slot (s .tag) k j) (s .tag) + grants (slot (s .tag) k j) cs (replies E s cs)
-  -- "every copy is refused, and every other answer and the end state are the same as without them"
-  pub copies : (es : List Entry) → CopiesOfGranted E (s .tag) s [] es
-      → AllRefused (copyReplies es (replies E s (withCopies es)))
-      × (ownReplies es (replies E s (withCopies es)) ≡ replies E s (withoutCopies es))
-      × (final E s (withCopies es) ≡ final E s (withoutCopies es))
-  -- "Two neighbours in the list may change places, with the same answers and end state": each keeps its own answer,
-  -- and what is a counter segment is judged just before the two
-  pub neighbours : (before later : List Command) (c d : Command) → MayChangePlaces (final E s before .tag) c d
-      → (rs : List Reply)
-      × (replies E s (before ++ c ∷ d ∷ later)
-      ≡ replies E s before ++ reply E (final E s before) c ∷ reply E (final E s before) d ∷ rs)
-      × (replies E s (before ++ d ∷ c ∷ later)
-      ≡ replies E s before ++ reply E (final E s before) d ∷ reply E (final E s before) c ∷ rs)
-      × (final E s (before ++ c ∷ d ∷ later) ≡ final E s (before ++ d ∷ c ∷ later))
+  pub counting : (cs : List Command) (k j : ℕ) → LockedCounter (s .tag) k → j < 512 → Counts E s cs k j
+  pub copies : (es : List Entry) → CopiesOfGranted E (s .tag) s [] es → CopiesRefused E s es
+  pub neighbours : (before : List Command) (c d : Command) (later : List Command)
+      → MayChangePlaces (final E s before .tag) c d → SameEitherWay E s before c d later
 
 -- ---- "Of a log run, whose commands are the list and whose replies are the answers, it speaks only where no 15 or 16
 -- stops the run, with or without the copies and in either order."
@@ -152,12 +161,15 @@ pub record Demand3 (E : Cipher) (s : State) : Type 0 where
 abbrev pub Ends : Cipher → State → (log : List ℕ) (room : ℕ) → Type 0
 Ends E s log room = runLog E s log room .stop ≡ End
 
+-- the run is that of the list: it reads the whole log, its output is the answers, and its end state is the list's
+abbrev pub IsList : Cipher → State → (log : List ℕ) (room : ℕ) → Type 0
+IsList E s log room =
+    (runLog E s log room .taken ≡ length log)
+    × (runLog E s log room .output ≡ encodedAll (replies E s (commands log)))
+    × (runLog E s log room .state ≡ final E s (commands log))
+
 pub record LogDemand3 (E : Cipher) (s : State) : Type 0 where
-  -- the run is that of the list: it reads the whole log, its output is the answers, and its end state is the list's
-  pub is-list : (log : List ℕ) (room : ℕ) → Ends E s log room
-      → (runLog E s log room .taken ≡ length log)
-      × (runLog E s log room .output ≡ encodedAll (replies E s (commands log)))
-      × (runLog E s log room .state ≡ final E s (commands log))
+  pub is-list : (log : List ℕ) (room : ℕ) → Ends E s log room → IsList E s log room
   pub counting : (log : List ℕ) (room k j : ℕ) → Ends E s log room → LockedCounter (s .tag) k → j < 512
       → valueAt (slot (s .tag) k j) (runLog E s log room .state .tag)
       ≡ valueAt (slot (s .tag) k j) (s .tag)
@@ -168,7 +180,7 @@ pub record LogDemand3 (E : Cipher) (s : State) : Type 0 where
       × AllRefused (copyReplies es rs)
       × (runLog E s log room .output ≡ encodedAll (ownReplies es rs))
       × (runLog E s more room′ .state ≡ runLog E s log room .state)
-  pub neighbours : (log other : List ℕ) (room room′ : ℕ) (before later : List Command) (c d : Command)
+  pub neighbours : (log other : List ℕ) (room room′ : ℕ) (before : List Command) (c d : Command) (later : List Command)
       → Ends E s log room → Ends E s other room′
       → commands log ≡ before ++ c ∷ d ∷ later → commands other ≡ before ++ d ∷ c ∷ later
       → MayChangePlaces (final E s before .tag) c d
