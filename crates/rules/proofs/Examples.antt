@@ -9,14 +9,14 @@ use Rattle.rules.specs.Units.{unitBytes, bit, stageOf, modelOf, unitOf, 
 use Rattle.rules.specs.State.{poweredUp, withRead, withWrite, withEdit, withName, withId, withPa, pin, pinIndex, owner, ownerIndex, guard, encipheredCounter, response}
 use Rattle.rules.specs.Refusals.{lowest, isNext, headerWriteChecks, segmentReadChecks, slotRefuses, segmentWriteChecks, unitReadChecks, isReceiver, pastStageZero, sameBool, keepsModel, editAllowed, editChecks, canAdvance, advanceChecks, plainChecks, responseChecks, nameChecks, commitChecks, registerChecks, readChecks, writeChecks}
 use Rattle.rules.specs.Effects.{apply, stored, readOnly, writeMove, advanced, advanceStores, registerStores, registerSession, writeStores, writeSession, refusalStores}
-use Rattle.rules.specs.Command.{refusal, inPlace, checks, stores, storesIn, sessionIn, newSession, grant, replyBy, reply, afterBy, after}
+use Rattle.rules.specs.Command.{refusal, inPlace, checks, stores, storesIn, sessionIn, newSession, grant, replyBy, reply, after, afterBy}
 use Rattle.rules.specs.Run.{final, replies}
 use Rattle.rules.specs.Log.{kinds, kindIn, bodyLength, commandOf, wholeOf, first, parsed, parsedBy, commandsOf, readCode, encoded, encodedAll, roomFor, stopped, onward, carriedOut, runLog}
-use Rattle.rules.specs.Examples.{Hold, starred, errors, NotEmpty, RepeatsChange, owed, tagWith, counterTag, eight, begin, naming, got, xorWrite, nameWrite, xorState, nameState}
+use Rattle.rules.specs.Examples.{Hold, starred, stages, errors, NotEmpty, RepeatsChange, owed, tagWith, counterTag, eight, begin, naming, got, xorWrite, nameWrite, xorState, nameState}
 use Rattle.rules.specs.Readings.{readings, zeros16, counterOrder, modelThreeEdits, advanceOrder, coveredName, indexRules, registerRules, pinRules, countFirst, shortTag, defaultModel, logRoom}
 
 -- all of them under one list of what is opened
-computed : Hold starred × Hold errors × Hold readings × NotEmpty × RepeatsChange
+computed : Hold starred × Hold stages × Hold errors × Hold readings × NotEmpty × RepeatsChange
 unfolding part put numberFrom same zeros xor all segments publics counter flag most managements segmentsAt soundness
     sound registerNo rows liesIn find placeOf unitBytes bit stageOf modelOf unitOf nameOf modelFits formedness
     wellFormed poweredUp withRead withWrite withEdit withName withId withPa pinIndex ownerIndex guard pin owner
@@ -26,10 +26,11 @@ unfolding part put numberFrom same zeros xor all segments publics counter flag m
     readOnly writeMove advanced advanceStores registerStores registerSession writeStores writeSession
     refusalStores inPlace checks refusal storesIn sessionIn stores newSession grant replyBy reply afterBy after
     final replies kinds kindIn bodyLength commandOf wholeOf first parsedBy parsed commandsOf readCode encoded
-    encodedAll roomFor stopped onward carriedOut runLog tagWith counterTag eight begin naming got owed starred
+    encodedAll roomFor stopped onward carriedOut runLog tagWith counterTag eight begin naming got owed starred stages
     errors xorWrite nameWrite xorState nameState zeros16 counterOrder modelThreeEdits advanceOrder coveredName
     indexRules registerRules pinRules countFirst shortTag defaultModel logRoom readings
 computed = (
+  refl,
   refl,
   refl,
   refl,
@@ -48,14 +49,17 @@ computed = (
 pub starred-hold : Hold starred
 starred-hold = computed .0
 
+pub stages-hold : Hold stages
+stages-hold = computed .1
+
 pub errors-shown : Hold errors
-errors-shown = computed .1
+errors-shown = computed .2
 
 pub readings-hold : Hold readings
-readings-hold = computed .2
+readings-hold = computed .3
 
 pub not-empty : NotEmpty
-not-empty = computed .3
+not-empty = computed .4
 
 pub repeats-change : RepeatsChange
-repeats-change = computed .4
+repeats-change = computed .5

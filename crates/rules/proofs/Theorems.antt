@@ -10,7 +10,7 @@ use Rattle.rules.proofs.Demand3.{demand-3}
 use Rattle.rules.proofs.LogLaws.{log-is-its-commands}
 use Rattle.rules.proofs.LogDemand3.{log-demand-3}
 use Rattle.rules.proofs.FourCommands.{host-reads}
-use Rattle.rules.proofs.Examples.{starred-hold, errors-shown, readings-hold, not-empty, repeats-change}
+use Rattle.rules.proofs.Examples.{starred-hold, stages-hold, errors-shown, readings-hold, not-empty, repeats-change}
 use Rattle.rules.proofs.Moves.{moves-exact, power-up-clears}
 
 pub theorems : Theorems
@@ -31,6 +31,7 @@ theorems =
       one-answer-each = one-answer-each;
       log-is-its-commands = log-is-its-commands;
       starred-hold = starred-hold;
+      stages-hold = stages-hold;
       errors-shown = errors-shown;
       readings-hold = readings-hold;
       not-empty = not-empty;

@@ -83,6 +83,35 @@ pub record NotEmpty : Type 0 where
   pub tag-sound : sound counterTag ≡ true
   pub segment-locked : LockedCounter counterTag 0
 
+-- ---- model 3 from stage to stage: it stores, then XORs, then is read only; its unit's first bytes move with it
+
+unfoldable pub stages : List Example
+stages =
+    sends (begin (tagWith 0x25 0x03))
+    (write 16384 (5 ∷ [])
+    ∷ read 16384 1 1
+    ∷ advance 0
+    ∷ write 16384 (3 ∷ [])
+    ∷ read 12288 2 2
+    ∷ advance 0
+    ∷ read 12288 2 2
+    ∷ read 16384 1 1
+    ∷ write 16384 (0 ∷ [])
+    ∷ advance 0
+    ∷ [])
+    (done
+    ∷ refused 6
+    ∷ done
+    ∷ done
+    ∷ gives (0x25 ∷ 0x13 ∷ [])
+    ∷ done
+    ∷ gives (0x85 ∷ 0x23 ∷ [])
+    ∷ gives (6 ∷ [])
+    ∷ refused 6
+    ∷ refused 14
+    ∷ [])
+    ∷ []
+
 -- ---- "Errors that look right". 1 and 5 are among the examples above.
 
 -- 2: after a wrong response the flag is set, and the same counter value takes no second guess, not even the right one.

@@ -46,6 +46,7 @@ advanceOrder =
     sends (begin (put 12295 (7 ∷ []) (tagWith 0xB0 0x00))) (advance 0 ∷ []) (refused 7 ∷ [])
     ∷ sends (begin (put 12304 (65 ∷ []) (tagWith 0x08 0x00))) (advance 0 ∷ []) (refused 8 ∷ [])
     ∷ sends (begin (tagWith 0x00 0x00)) (advance 0 ∷ []) (refused 14 ∷ [])
+    ∷ sends (begin counterTag) (advance 0 ∷ []) (refused 14 ∷ [])
     ∷ sends (begin (put 3 (1 ∷ []) (put 1 (1 ∷ []) (replicate 24576 0)))) (advance 1 ∷ []) (refused 3 ∷ [])
     ∷ []
 

@@ -12,7 +12,7 @@ use Rattle.rules.specs.Command.{Command, refusal}
 use Rattle.rules.specs.Demand3.{Demand3, LogDemand3}
 use Rattle.rules.specs.Claims.{LowestGiven, RefusalNamed, RefusedChangesNothing, TheMap, Sizes, SoundStays, LockedUnit, MovesExact, PowerUpClears, OneAnswerEach, LogIsItsCommands}
 use Rattle.rules.specs.FourCommands.{HostReads}
-use Rattle.rules.specs.Examples.{starred, Hold, errors, NotEmpty, RepeatsChange}
+use Rattle.rules.specs.Examples.{starred, Hold, stages, errors, NotEmpty, RepeatsChange}
 use Rattle.rules.specs.Readings.{readings}
 
 pub record Theorems : Type 0 where
@@ -39,6 +39,7 @@ pub record Theorems : Type 0 where
   pub log-is-its-commands : (E : Cipher) (s : State) (room : ℕ) → LogIsItsCommands E s room
   -- examples
   pub starred-hold : Hold starred
+  pub stages-hold : Hold stages
   pub errors-shown : Hold errors
   pub readings-hold : Hold readings
   pub not-empty : NotEmpty
