@@ -4,16 +4,16 @@ use mathlib.Core.Path.{_≡_, refl, ap}
 use native.Mathlib.Omega.{arith}
 use lib.Dec.{lit<}
 use Rattle.rules.specs.Bytes.{put, part, numberFrom, same, zeros, xor, all, byte}
-use Rattle.rules.specs.Map.{segments, publics, counter, flag, most, managements, segmentsAt, sound, soundness, registerNo, rows, liesIn, find, placeOf}
+use Rattle.rules.specs.Map.{segments, publics, counter, flag, most, managements, segmentsAt, soundness, sound, registerNo, rows, liesIn, find, placeOf}
 use Rattle.rules.specs.Units.{unitBytes, bit, stageOf, modelOf, unitOf, nameOf, modelFits, formedness, wellFormed}
-use Rattle.rules.specs.State.{poweredUp, withRead, withWrite, withEdit, withName, withId, withPa, pin, pinIndex, owner, ownerIndex, guard, encipheredCounter, response}
+use Rattle.rules.specs.State.{poweredUp, withRead, withWrite, withEdit, withName, withId, withPa, pinIndex, pin, owner, ownerIndex, guard, encipheredCounter, response}
 use Rattle.rules.specs.Refusals.{lowest, isNext, headerWriteChecks, segmentReadChecks, slotRefuses, segmentWriteChecks, unitReadChecks, isReceiver, pastStageZero, sameBool, keepsModel, editAllowed, editChecks, canAdvance, advanceChecks, plainChecks, responseChecks, nameChecks, commitChecks, registerChecks, readChecks, writeChecks}
 use Rattle.rules.specs.Effects.{apply, stored, readOnly, writeMove, advanced, advanceStores, registerStores, registerSession, writeStores, writeSession, refusalStores}
 use Rattle.rules.specs.Command.{refusal, inPlace, checks, stores, storesIn, sessionIn, newSession, grant, replyBy, reply, after, afterBy}
 use Rattle.rules.specs.Run.{final, replies}
 use Rattle.rules.specs.Log.{kinds, kindIn, bodyLength, commandOf, wholeOf, first, parsed, parsedBy, commandsOf, readCode, encoded, encodedAll, roomFor, stopped, onward, carriedOut, runLog}
 use Rattle.rules.specs.Examples.{Hold, starred, stages, errors, NotEmpty, RepeatsChange, owed, tagWith, counterTag, eight, begin, naming, got, xorWrite, nameWrite, xorState, nameState}
-use Rattle.rules.specs.Readings.{readings, zeros16, counterOrder, modelThreeEdits, advanceOrder, coveredName, indexRules, registerRules, pinRules, countFirst, shortTag, defaultModel, logRoom}
+use Rattle.rules.specs.Readings.{readings, zeros16, counterOrder, modelThreeEdits, advanceOrder, coveredName, indexRules, registerRules, pinRules, whichKey, countFirst, shortTag, defaultModel, logRoom}
 
 -- all of them under one list of what is opened
 computed : Hold starred × Hold stages × Hold errors × Hold readings × NotEmpty × RepeatsChange
@@ -28,7 +28,7 @@ unfolding part put numberFrom same zeros xor all segments publics counter flag m
     final replies kinds kindIn bodyLength commandOf wholeOf first parsedBy parsed commandsOf readCode encoded
     encodedAll roomFor stopped onward carriedOut runLog tagWith counterTag eight begin naming got owed starred stages
     errors xorWrite nameWrite xorState nameState zeros16 counterOrder modelThreeEdits advanceOrder coveredName
-    indexRules registerRules pinRules countFirst shortTag defaultModel logRoom readings
+    indexRules registerRules pinRules whichKey countFirst shortTag defaultModel logRoom readings
 computed = (
   refl,
   refl,

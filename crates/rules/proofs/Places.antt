@@ -12,8 +12,8 @@ use native.Mathlib.Decide.{ℕ-discrete, decLe}
 use borrow.Author.Tests.{leb-true, ltb-true, le-leb, lt-ltb}
 use Rattle.rules.specs.declared.Place.{Place}
 use Rattle.rules.specs.declared.Place.the-variants.{Header, Hidden, RegisterOf, Pins, Readers, UnitOf, Spare, Segment, Public}
-use Rattle.rules.specs.Map.{Row, row, liesIn, find, rows, most, segmentAt, unitAt, segmentsAt, segments, placeOf, publics, sound, registerNo, registerAt, pinAt}
-use Rattle.rules.specs.Claims.{Within, Holds, TheMap}
+use Rattle.rules.specs.Map.{Row, row, liesIn, find, rows, most, segmentAt, unitAt, segmentsAt, segments, placeOf, publics, sound, registerNo, registerAt, pinAt, managements}
+use Rattle.rules.specs.Claims.{Within, Holds, TheMap, NoSpare}
 use Rattle.rules.proofs.Tests.{and-true, some-none, same-some}
 use Rattle.rules.proofs.BytesLaws.{Apart}
 use Rattle.rules.proofs.MapLaws.{units-fit, sound-facts}
@@ -285,3 +285,8 @@ extent A P a n p h (inr (inr (inr (inr (inr (inr (inr (inr (inr w))))))))) = abs
 
 pub placed : (t : List ℕ) (p : Place) (a n : ℕ) → sound t ≡ true → Holds t p a n → Extent (segments t) (publics t) p a n
 placed t p a n w h = extent (segments t) (publics t) a n p (sound-facts t w .most-segments) h
+
+pub no-spare : (t : List ℕ) → sound t ≡ true → segments t ≡ 128 → NoSpare t
+unfolding segmentsAt managements
+no-spare t w e a n l f =
+    let x = placed t Spare a n w (place-holds t Spare a n f) in absurd (omega (arith, x .0, x .1, e))

@@ -1,7 +1,7 @@
 -- All that is proved of the rules.
 use Rattle.rules.specs.Theorems.{Theorems}
 use Rattle.rules.proofs.MapLaws.{sizes}
-use Rattle.rules.proofs.Places.{the-map}
+use Rattle.rules.proofs.Places.{the-map, no-spare}
 use Rattle.rules.proofs.Lawful.{sound-stays}
 use Rattle.rules.proofs.Locked.{locked-unit}
 use Rattle.rules.proofs.Counting.{one-answer-each}
@@ -22,6 +22,7 @@ theorems =
       refusal-named = refusal-named;
       refused-changes-nothing = refused-changes-nothing;
       the-map = the-map;
+      no-spare = no-spare;
       sizes = sizes;
       sound-stays = sound-stays;
       locked-unit = locked-unit;

@@ -10,7 +10,7 @@ use lib.ListN.{length, drop, replicate}
 use Rattle.rules.specs.declared.Model.{Model}
 use Rattle.rules.specs.declared.Model.the-variants.{Default, WriteOnce, Counter, Receiver}
 use Rattle.rules.specs.declared.Place.{Place}
-use Rattle.rules.specs.declared.Place.the-variants.{Segment}
+use Rattle.rules.specs.declared.Place.the-variants.{Spare, Segment}
 use Rattle.rules.specs.declared.Refusal.{Refusal}
 use Rattle.rules.specs.declared.Stop.the-variants.{End, BadCommand, OutputFull}
 use Rattle.rules.specs.Bytes.{byte, put, part}
@@ -44,6 +44,10 @@ pub record TheMap (t : List ℕ) : Type 0 where
   pub one-place : (p q : Place) (a n : ℕ) → 1 ≤ n → Holds t p a n → Holds t q a n → p ≡ q
   pub every-byte : (a : ℕ) → a < length t → (p : Place) × (placeOf t a 1 ≡ some p)
   pub in-tag : (p : Place) (a n : ℕ) → placeOf t a n ≡ some p → a + n ≤ length t
+
+-- "the remainder is one spare place": of 128 units there is none
+abbrev pub NoSpare : List ℕ → Type 0
+NoSpare t = (a n : ℕ) → 1 ≤ n → placeOf t a n ≢ some Spare
 
 -- "Smallest 20,480 bytes, largest 1,064,960."
 pub record Sizes (t : List ℕ) : Type 0 where

@@ -7,7 +7,7 @@ use mathlib.Core.List.{List, [], _∷_, _++_, map}
 use lib.ListN.{replicate}
 use Rattle.rules.specs.declared.Stop.{Stop}
 use Rattle.rules.specs.declared.Stop.the-variants.{End}
-use Rattle.rules.specs.Bytes.{put}
+use Rattle.rules.specs.Bytes.{put, xor}
 use Rattle.rules.specs.Map.{registerAt, sound}
 use Rattle.rules.specs.State.{Cipher, State, poweredUp, withPa}
 use Rattle.rules.specs.Command.{Command, Reply, write, done, refused, read, gives, advance, powerUp}
@@ -26,9 +26,9 @@ counterTag = tagWith 0xA5 0x02
 unfoldable pub eight : ℕ → ℕ → List ℕ
 eight x y = 0 ∷ 0 ∷ 0 ∷ 0 ∷ 0 ∷ 0 ∷ x ∷ y ∷ []
 
--- a cipher that leaves its block as it is
-abbrev pub noCipher : Cipher
-noCipher = λ key block. block
+-- a cipher that can be computed by hand, and that depends on its key
+abbrev pub xorCipher : Cipher
+xorCipher = λ key block. xor block key
 
 -- after power-up, and with PA naming a PIN index in its first two bytes
 unfoldable pub begin : List ℕ → State
@@ -48,9 +48,9 @@ pub data Got : Type 0 where
   ran : ℕ → List ℕ → Stop → Got
 
 unfoldable pub got : Example → Got
-got (sends s cs rs) = answers (replies noCipher s cs)
+got (sends s cs rs) = answers (replies xorCipher s cs)
 got (runs room s log n out x) =
-    ran (runLog noCipher s log room .taken) (runLog noCipher s log room .output) (runLog noCipher s log room .stop)
+    ran (runLog xorCipher s log room .taken) (runLog xorCipher s log room .output) (runLog xorCipher s log room .stop)
 
 unfoldable pub owed : Example → Got
 owed (sends s cs rs) = answers rs
@@ -153,9 +153,9 @@ unfoldable pub nameState : State
 nameState = begin counterTag
 
 pub record RepeatsChange : Type 0 where
-  pub xor-granted : replies noCipher xorState (xorWrite ∷ xorWrite ∷ []) ≡ done ∷ done ∷ []
-  pub xor-changes : final noCipher xorState (xorWrite ∷ xorWrite ∷ []) ≢ final noCipher xorState (xorWrite ∷ [])
-  pub name-granted : replies noCipher nameState (nameWrite ∷ write 4 (eight 0 1) ∷ nameWrite ∷ [])
+  pub xor-granted : replies xorCipher xorState (xorWrite ∷ xorWrite ∷ []) ≡ done ∷ done ∷ []
+  pub xor-changes : final xorCipher xorState (xorWrite ∷ xorWrite ∷ []) ≢ final xorCipher xorState (xorWrite ∷ [])
+  pub name-granted : replies xorCipher nameState (nameWrite ∷ write 4 (eight 0 1) ∷ nameWrite ∷ [])
       ≡ done ∷ done ∷ done ∷ []
-  pub name-changes : final noCipher nameState (nameWrite ∷ write 4 (eight 0 1) ∷ nameWrite ∷ [])
-      ≢ final noCipher nameState (nameWrite ∷ write 4 (eight 0 1) ∷ [])
+  pub name-changes : final xorCipher nameState (nameWrite ∷ write 4 (eight 0 1) ∷ nameWrite ∷ [])
+      ≢ final xorCipher nameState (nameWrite ∷ write 4 (eight 0 1) ∷ [])

@@ -67,6 +67,9 @@ indexRules =
     ∷ sends (naming 0 7 (tagWith 0xA0 0x00))
     (write 12293 (3 ∷ []) ∷ write (registerAt 2) zeros16 ∷ write 12293 (4 ∷ []) ∷ [])
     (done ∷ done ∷ refused 7 ∷ [])
+    ∷ sends (naming 0 7 (put 12295 (7 ∷ []) (tagWith 0x30 0x00)))
+    (write 16384 (1 ∷ []) ∷ write (registerAt 1) zeros16 ∷ write 16384 (1 ∷ []) ∷ [])
+    (refused 7 ∷ done ∷ done ∷ [])
     ∷ sends (record { tag = tagWith 0xC0 0x00; session = withRead 300 poweredUp })
     (read 16384 1 1 ∷ [])
     (refused 7 ∷ [])
@@ -98,8 +101,35 @@ pinRules =
     sends (begin counterTag) (write (registerAt 0) zeros16 ∷ []) (done ∷ [])
     ∷ sends (naming 0 1 counterTag) (write (registerAt 5) zeros16 ∷ []) (done ∷ [])
     ∷ sends (begin counterTag)
-    (write (registerAt 6) (0 ∷ 1 ∷ 0 ∷ 4 ∷ replicate 12 0) ∷ write (registerAt 5) zeros16 ∷ write (registerAt 0) zeros16 ∷ [])
+    (write (registerAt 6) (0 ∷ 1 ∷ 0 ∷ 4 ∷ replicate 12 0)
+    ∷ write (registerAt 5) zeros16
+    ∷ write (registerAt 0) zeros16
+    ∷ [])
     (done ∷ refused 9 ∷ done ∷ [])
+    ∷ []
+
+-- NAME uses the PIN that PA's PIN index names: PIN 1 is all 5 and owner PIN 0 all 9, and the name becomes all 5.
+-- COMMIT uses the owner PIN, here 2, which is all 9: the guard is 6 XOR 9, and so is the new PIN 3, by which READ is
+-- then answered; with a wrong guard PIN 3 stays zeros.
+unfoldable pub whichKey : List Example
+whichKey =
+    sends (naming 0 1 (put 12304 (replicate 16 5) (put 4112 (replicate 16 5) (put 16 (replicate 16 9) (tagWith 0x88 0x00)))))
+    (write (registerAt 3) zeros16 ∷ read 16384 1 1 ∷ [])
+    (done ∷ gives (0 ∷ []) ∷ [])
+    ∷ sends (begin (put 48 (replicate 16 9) counterTag))
+    (write (registerAt 6) (0 ∷ 3 ∷ 0 ∷ 2 ∷ replicate 12 15)
+    ∷ write (registerAt 5) (replicate 16 6)
+    ∷ write 4 (eight 0 1)
+    ∷ write (registerAt 0) (replicate 15 15 ++ 14 ∷ [])
+    ∷ [])
+    (done ∷ done ∷ done ∷ done ∷ [])
+    ∷ sends (begin (put 48 (replicate 16 9) counterTag))
+    (write (registerAt 6) (0 ∷ 3 ∷ 0 ∷ 2 ∷ replicate 12 6)
+    ∷ write (registerAt 5) (replicate 16 6)
+    ∷ write 4 (eight 0 1)
+    ∷ write (registerAt 0) (replicate 15 0 ++ 1 ∷ [])
+    ∷ [])
+    (done ∷ refused 11 ∷ done ∷ done ∷ [])
     ∷ []
 
 -- 2 comes before 3 to 8; a write may have 1 to 4,096 bytes
@@ -138,5 +168,5 @@ logRoom =
 
 unfoldable pub readings : List Example
 readings =
-    counterOrder ++ modelThreeEdits ++ advanceOrder ++ coveredName ++ indexRules ++ registerRules ++ pinRules ++ countFirst
-    ++ shortTag ++ defaultModel ++ logRoom
+    counterOrder ++ modelThreeEdits ++ advanceOrder ++ coveredName ++ indexRules ++ registerRules ++ pinRules
+    ++ whichKey ++ countFirst ++ shortTag ++ defaultModel ++ logRoom

@@ -10,7 +10,7 @@ use Rattle.rules.specs.Units.{unitOf, unitBytes}
 use Rattle.rules.specs.State.{Cipher, State}
 use Rattle.rules.specs.Command.{Command, refusal}
 use Rattle.rules.specs.Demand3.{Demand3, LogDemand3}
-use Rattle.rules.specs.Claims.{LowestGiven, RefusalNamed, RefusedChangesNothing, TheMap, Sizes, SoundStays, LockedUnit, MovesExact, PowerUpClears, OneAnswerEach, LogIsItsCommands}
+use Rattle.rules.specs.Claims.{LowestGiven, RefusalNamed, RefusedChangesNothing, TheMap, NoSpare, Sizes, SoundStays, LockedUnit, MovesExact, PowerUpClears, OneAnswerEach, LogIsItsCommands}
 use Rattle.rules.specs.FourCommands.{HostReads}
 use Rattle.rules.specs.Examples.{starred, Hold, stages, errors, NotEmpty, RepeatsChange}
 use Rattle.rules.specs.Readings.{readings}
@@ -26,6 +26,7 @@ pub record Theorems : Type 0 where
       → RefusedChangesNothing E s c n
   -- the tag
   pub the-map : (t : List ℕ) → sound t ≡ true → TheMap t
+  pub no-spare : (t : List ℕ) → sound t ≡ true → segments t ≡ 128 → NoSpare t
   pub sizes : (t : List ℕ) → sound t ≡ true → Sizes t
   pub sound-stays : (E : Cipher) (s : State) (c : Command) → sound (s .tag) ≡ true → SoundStays E s c
   pub locked-unit : (E : Cipher) (s : State) (k : ℕ) (c : Command) → sound (s .tag) ≡ true → k < segments (s .tag)

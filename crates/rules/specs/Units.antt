@@ -45,7 +45,7 @@ modelOf (suc (suc zero)) g = Counter
 modelOf (suc (suc (suc n))) g = Receiver g
 
 -- "A unit read from memory is a record whose model carries its own stage." "With M clear byte 1 is ignored and the
--- default model holds." It is looked at only where the unit is well formed.
+-- default model holds." Of an ill-formed unit it decides nothing, since 5 comes first.
 unfoldable pub unitOf : List ℕ → Unit
 unitOf u =
     record {
