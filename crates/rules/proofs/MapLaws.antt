@@ -1,6 +1,6 @@
--- Laws of the header and of soundness, and the one law of the address rule.
+-- Laws of the address rule, of the header and of soundness. No other proof opens the address rule.
 use Prim.Native.Nat.{ℕ, _+_, _≤_}
-use mathlib.Core.Path.{_≡_, ap}
+use mathlib.Core.Path.{_≡_, refl, ap}
 use mathlib.Core.Bool.{true}
 use mathlib.Core.List.{List, [], _∷_}
 use native.Mathlib.Omega.{arith}
@@ -10,12 +10,16 @@ use Rattle.rules.specs.Bytes.{zeros, part, put, number}
 use Rattle.rules.specs.Map.{most, unitAt, segmentsAt, segments, managements, segmentAt, publics, flag, pinAt, sound, soundness}
 use Rattle.rules.specs.Claims.{Sizes}
 use Rattle.rules.proofs.Tests.{all-true, all-and, all-none}
-use Rattle.rules.proofs.BytesLaws.{Apart, part-put, byte-put, byte-put-out, length-put}
+use Rattle.rules.proofs.BytesLaws.{Apart, part-put, byte-put-out, byte-put, length-put}
 
--- all that the proofs know of where the segments begin: the units end before
+-- where the segments begin: the units end before; 128 of them end just there
 pub units-fit : (A : ℕ) → A ≤ most → unitAt A ≤ segmentsAt A
 unfolding most managements segmentsAt
 units-fit A h = omega arith
+
+pub units-fill : segmentsAt 128 ≡ unitAt 128
+unfolding managements segmentsAt
+units-fill = refl
 
 -- ---- the facts of soundness
 

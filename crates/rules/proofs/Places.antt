@@ -1,7 +1,7 @@
 -- The table of places: a range is found in the place in which it lies, no other range is found, and every byte is in
 -- a place.
 use Prim.Native.Nat.{ℕ, zero, suc, _+_, _-_, _*_, _/_, _≤_, _<_}
-use mathlib.Core.Path.{_≡_, refl, sym, ap, _∙_}
+use mathlib.Core.Path.{_≡_, refl, sym, ap, subst, _∙_}
 use mathlib.Core.Logic.{_≢_, _⊎_, inl, inr}
 use mathlib.Core.Bool.{Bool, true, false, cond}
 use mathlib.Core.List.{List, [], _∷_}
@@ -12,11 +12,11 @@ use native.Mathlib.Decide.{ℕ-discrete, decLe}
 use borrow.Author.Tests.{leb-true, ltb-true, le-leb, lt-ltb}
 use Rattle.rules.specs.declared.Place.{Place}
 use Rattle.rules.specs.declared.Place.the-variants.{Header, Hidden, RegisterOf, Pins, Readers, UnitOf, Spare, Segment, Public}
-use Rattle.rules.specs.Map.{Row, row, liesIn, find, rows, most, segmentAt, unitAt, segmentsAt, segments, placeOf, publics, sound, registerNo, registerAt, pinAt, managements}
+use Rattle.rules.specs.Map.{Row, row, liesIn, find, rows, most, segmentAt, unitAt, segmentsAt, segments, placeOf, publics, sound, registerNo, registerAt, pinAt}
 use Rattle.rules.specs.Claims.{Within, Holds, TheMap, NoSpare}
 use Rattle.rules.proofs.Tests.{and-true, some-none, same-some}
 use Rattle.rules.proofs.BytesLaws.{Apart}
-use Rattle.rules.proofs.MapLaws.{units-fit, sound-facts}
+use Rattle.rules.proofs.MapLaws.{units-fit, sound-facts, units-fill}
 
 -- ---- any list of rows that follow each other without a gap
 
@@ -287,6 +287,6 @@ pub placed : (t : List ℕ) (p : Place) (a n : ℕ) → sound t ≡ true → Hol
 placed t p a n w h = extent (segments t) (publics t) a n p (sound-facts t w .most-segments) h
 
 pub no-spare : (t : List ℕ) → sound t ≡ true → segments t ≡ 128 → NoSpare t
-unfolding segmentsAt managements
 no-spare t w e a n l f =
-    let x = placed t Spare a n w (place-holds t Spare a n f) in absurd (omega (arith, x .0, x .1, e))
+    let x = subst (λ A. Extent A (publics t) Spare a n) e (placed t Spare a n w (place-holds t Spare a n f)) in
+    absurd (omega (arith, units-fill, x .0, x .1))

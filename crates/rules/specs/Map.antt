@@ -30,7 +30,7 @@ unfoldable pub most : ℕ
 most = 128
 
 -- ---- the address rule. How many management segments hold the units, and so where the segments begin, is said here
--- alone: the laws in proofs/ know of `segmentsAt` only that the units end before it.
+-- alone; of the proofs only those in MapLaws open it, mainly for the law that the units end before the segments.
 
 unfoldable pub managements : ℕ → ℕ
 managements A = 1
