@@ -9,7 +9,6 @@ use native.Mathlib.Omega.{arith}
 use lib.ListN.{length}
 use lib.Dec.{eqb}
 use borrow.Author.Tests.{leb-true, ltb-true, eqb-true, eqb-false, not-false}
-use Rattle.rules.specs.declared.Session.{Session}
 use Rattle.rules.specs.declared.Model.the-variants.{Counter}
 use Rattle.rules.specs.declared.Register.the-variants.{Commit}
 use Rattle.rules.specs.declared.Place.{Place}
@@ -88,10 +87,10 @@ commit-facts E s bs e =
     let z : pinIndex (s .session) ≢ 0 = eqb-false _ _ (c2 .0) in
     (eqb-true _ _ (not-false _ (c0 .0)), omega arith, leb-true _ _ (not-false _ (c1 .0)))
 
-pub slot-facts : (v : Session) (u : List ℕ) (o : ℕ) (old bs : List ℕ) → unitOf u .model ≡ Counter
-    → lowest (segmentWriteChecks v u o old bs) ≡ none → (o % 8 ≡ 0) × (length bs ≡ 8) × (number bs ≡ number old + 1)
+pub slot-facts : (i : ℕ) (name u : List ℕ) (o : ℕ) (old bs : List ℕ) → unitOf u .model ≡ Counter
+    → lowest (segmentWriteChecks i name u o old bs) ≡ none → (o % 8 ≡ 0) × (length bs ≡ 8) × (number bs ≡ number old + 1)
 unfolding segmentWriteChecks isNext
-slot-facts v u o old bs h e =
+slot-facts i name u o old bs h e =
     let c5 = passes _ _ _ e .1 in
     let c6 = passes _ _ _ c5 .1 in
     let c7 = passes _ _ _ c6 .1 in

@@ -43,7 +43,7 @@ module _ (E : Cipher) (s : State) (k : ℕ) (w : sound (s .tag) ≡ true) (cs : 
   unfolding writeStores writeChecks stored writeMove
   segment-effect a bs h e =
       let f = placed (s .tag) (Segment k) a (length bs) w h in
-      let x = slot-facts _ _ _ _ bs (cs .counts) e in
+      let x = slot-facts _ _ _ _ _ bs (cs .counts) e in
       to-slot ((a - segmentAt (segments (s .tag)) k) / 8) (omega arith) (omega arith) (x .1)
       (x .2 ∙ ap (λ n. number (part a n (s .tag)) + 1) (x .1)) (rw (cs .counts))
 

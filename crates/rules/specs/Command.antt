@@ -50,7 +50,7 @@ checks E s (write a bs) =
 checks E s (advance k) =
     1 when not (sound (s .tag)) else
     3 when not (ltb k (segments (s .tag))) else
-    advanceChecks (s .session) (unitBytes (s .tag) k)
+    advanceChecks (s .session .write) (s .session .name) (unitBytes (s .tag) k)
 checks E s powerUp = granted
 
 unfoldable pub refusal : Cipher → State → Command → Option ℕ

@@ -1,12 +1,12 @@
 -- Document 01, "What a command does" and "Refusal numbers": what refuses a command in a place, 4 to 14. Assumes
--- nothing. `t` is the tag, `v` the session, `u` the bytes of a unit, `bs` the bytes to be written.
+-- nothing. `t` is the tag, `u` the bytes of a unit, `bs` the bytes to be written; `read`, `write`, `edit` and `name`
+-- are the session's.
 use Prim.Native.Nat.{ℕ, _+_, _-_, _%_}
 use mathlib.Core.Bool.{Bool, true, false, _&&_, not, cond}
 use mathlib.Core.List.{List, [], _∷_}
 use mathlib.Core.Option.{Option, none, some}
 use lib.ListN.{length}
 use lib.Dec.{eqb, leb, ltb}
-use Rattle.rules.specs.declared.Session.{Session}
 use Rattle.rules.specs.declared.Stage.the-variants.{Zero, One, Two}
 use Rattle.rules.specs.declared.Model.{Model}
 use Rattle.rules.specs.declared.Model.the-variants.{Default, WriteOnce, Counter, Receiver}
@@ -51,12 +51,12 @@ headerWriteChecks t a bs =
 -- ---- "Segment read: RD set; if RDPIN, the validated read index equals the unit's; if PN, the session name equals
 -- the unit's."
 
-unfoldable pub segmentReadChecks : Session → List ℕ → Checks
-segmentReadChecks v u =
+unfoldable pub segmentReadChecks : (read : ℕ) (name u : List ℕ) → Checks
+segmentReadChecks read name u =
     5 when not (wellFormed u) else
     6 when not (unitOf u .rd) else
-    7 when unitOf u .rdpin && not (eqb (v .read) (unitOf u .read)) else
-    8 when unitOf u .pn && not (same (v .name) (nameOf u)) else
+    7 when unitOf u .rdpin && not (eqb read (unitOf u .read)) else
+    8 when unitOf u .pn && not (same name (nameOf u)) else
     granted
 
 -- ---- "Segment write: the same with WR, WRPIN and the write index."
@@ -69,12 +69,12 @@ slotRefuses WriteOnce o old bs = false
 slotRefuses Counter o old bs = not (all (eqb (o % 8) 0 ∷ eqb (length bs) 8 ∷ isNext old bs ∷ []))
 slotRefuses (Receiver g) o old bs = false
 
-unfoldable pub segmentWriteChecks : Session → List ℕ → ℕ → List ℕ → List ℕ → Checks
-segmentWriteChecks v u o old bs =
+unfoldable pub segmentWriteChecks : (write : ℕ) (name u : List ℕ) (o : ℕ) (old bs : List ℕ) → Checks
+segmentWriteChecks write name u o old bs =
     5 when not (wellFormed u) else
     6 when not (unitOf u .wr) else
-    7 when unitOf u .wrpin && not (eqb (v .write) (unitOf u .write)) else
-    8 when unitOf u .pn && not (same (v .name) (nameOf u)) else
+    7 when unitOf u .wrpin && not (eqb write (unitOf u .write)) else
+    8 when unitOf u .pn && not (same name (nameOf u)) else
     12 when slotRefuses (unitOf u .model) o old bs else
     granted
 
@@ -125,11 +125,11 @@ editAllowed u w =
     ∷ cond (isReceiver (unitOf u .model)) (keepsModel u w) (not (pastStageZero (unitOf w .model)))
     ∷ [])
 
-unfoldable pub editChecks : Session → List ℕ → List ℕ → Checks
-editChecks v u w =
+unfoldable pub editChecks : (edit : ℕ) (u w : List ℕ) → Checks
+editChecks edit u w =
     5 when not (wellFormed u) else
     6 when unitOf u .ne else
-    7 when not (eqb (v .edit) (unitOf u .edit)) else
+    7 when not (eqb edit (unitOf u .edit)) else
     13 when not (editAllowed u w) else
     granted
 
@@ -144,11 +144,11 @@ canAdvance (Receiver Zero) = true
 canAdvance (Receiver One) = true
 canAdvance (Receiver Two) = false
 
-unfoldable pub advanceChecks : Session → List ℕ → Checks
-advanceChecks v u =
+unfoldable pub advanceChecks : (write : ℕ) (name u : List ℕ) → Checks
+advanceChecks write name u =
     5 when not (wellFormed u) else
-    7 when unitOf u .wrpin && not (eqb (v .write) (unitOf u .write)) else
-    8 when unitOf u .pn && not (same (v .name) (nameOf u)) else
+    7 when unitOf u .wrpin && not (eqb write (unitOf u .write)) else
+    8 when unitOf u .pn && not (same name (nameOf u)) else
     14 when not (canAdvance (unitOf u .model)) else
     granted
 
@@ -208,7 +208,7 @@ readChecks s Pins a n = never
 readChecks s Readers a n = granted
 readChecks s (UnitOf k) a n = unitReadChecks (unitBytes (s .tag) k) (a + n - unitAt k)
 readChecks s Spare a n = never
-readChecks s (Segment k) a n = segmentReadChecks (s .session) (unitBytes (s .tag) k)
+readChecks s (Segment k) a n = segmentReadChecks (s .session .read) (s .session .name) (unitBytes (s .tag) k)
 readChecks s (Public k) a n = granted
 
 unfoldable pub writeChecks : Cipher → State → Place → ℕ → List ℕ → Checks
@@ -218,9 +218,9 @@ writeChecks E s (RegisterOf r) a bs = registerChecks E s r bs
 writeChecks E s Pins a bs = never
 writeChecks E s Readers a bs = never
 writeChecks E s (UnitOf k) a bs =
-    editChecks (s .session) (unitBytes (s .tag) k) (unitBytes (put a bs (s .tag)) k)
+    editChecks (s .session .edit) (unitBytes (s .tag) k) (unitBytes (put a bs (s .tag)) k)
 writeChecks E s Spare a bs = never
 writeChecks E s (Segment k) a bs =
-    segmentWriteChecks (s .session) (unitBytes (s .tag) k)
+    segmentWriteChecks (s .session .write) (s .session .name) (unitBytes (s .tag) k)
     (a - segmentAt (segments (s .tag)) k) (part a (length bs) (s .tag)) bs
 writeChecks E s (Public k) a bs = granted

@@ -38,6 +38,9 @@ pub record State : Type 0 where
   pub tag : List ℕ
   pub session : Session
 
+abbrev pub state : List ℕ → Session → State
+state t v = record { tag = t; session = v }
+
 -- ---- "PA holds PIN index (2), owner index (2), guard (12)"
 
 unfoldable pub pinIndex : Session → ℕ

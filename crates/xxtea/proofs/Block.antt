@@ -4,7 +4,7 @@ use mathlib.Core.Path.{_≡_, refl, ap, ap₂, _∙_}
 use mathlib.Core.List.{List, [], _∷_}
 use native.Mathlib.Nat.{mod-eq-of-lt}
 use native.Mathlib.Omega.{arith}
-use lib.ListN.{length}
+use lib.ListN.{length, getD}
 use Rattle.xxtea.specs.Xxtea.{Direction, up, down, crypted}
 use Rattle.xxtea.specs.Claims.{Words, Bytes, BlockCipher}
 use Rattle.xxtea.specs.Block.{wordsOf, bytesOf, blockBy}
@@ -25,6 +25,25 @@ length-bytes : (ws : List ℕ) → length (bytesOf ws) ≡ 4 * length ws
 unfolding bytesOf
 length-bytes [] = refl
 length-bytes (w ∷ ws) = let h = length-bytes ws in omega (arith, h)
+
+-- ---- a list element by element
+
+-- n elements, from the one at i on
+unfoldable pub from : ℕ → ℕ → List ℕ → List ℕ
+from i zero xs = []
+from i (suc n) xs = getD xs i 0 ∷ from (suc i) n xs
+
+from-later : (i n x : ℕ) (xs : List ℕ) → from (suc i) n (x ∷ xs) ≡ from i n xs
+unfolding from
+from-later i zero x xs = refl
+from-later i (suc n) x xs = ap (λ ys. getD xs i 0 ∷ ys) (from-later (suc i) n x xs)
+
+pub listed : (n : ℕ) (xs : List ℕ) → length xs ≡ n → from 0 n xs ≡ xs
+unfolding from
+listed zero [] h = refl
+listed zero (x ∷ xs) h = absurd (omega arith)
+listed (suc n) [] h = absurd (omega arith)
+listed (suc n) (x ∷ xs) h = ap (λ ys. x ∷ ys) (from-later 0 n x xs ∙ listed n xs (omega arith))
 
 -- ---- splitting and joining undo each other
 

@@ -1,8 +1,10 @@
-// XXTEA over a lent slice of words, in place. The definitions that the contracts cite are in specs/Xxtea.antt.
+// XXTEA over a lent slice of words, in place, and over a block of 16 bytes. The definitions that the contracts cite
+// are in specs/Xxtea.antt and specs/Block.antt.
 ghost use mathlib.Core.Path.{_≡_};
-ghost use Prim.Native.Nat.{_≤_};
+ghost use Prim.Native.Nat.{_+_, _*_, _%_, _^_, _≤_};
 ghost use lib.ListN.{length};
 ghost use Rattle.xxtea.specs.Xxtea.{taken, roundsFor, sumIn, mix, keyWord, round, up, down, enciphered, deciphered, refusal, refused};
+ghost use Rattle.xxtea.specs.Block.{wordsOf, bytesOf, blockBy};
 
 const D: u64 = 0x9E37_79B9;
 
@@ -121,4 +123,65 @@ pub fn decipher(words: &mut [u32], key: [u32; 4]) -> Answer
         r -= 1;
     }
     answer_for(n)
+}
+
+// The word of four bytes, low byte first.
+fn word(a: u8, b: u8, c: u8, d: u8) -> u32
+    ensures { λ w. ⌜ w ≡ a + 2 ^ 8 * b + 2 ^ 16 * c + 2 ^ 24 * d ⌝ }
+{
+    a as u32 + b as u32 * 0x100 + c as u32 * 0x1_0000 + d as u32 * 0x100_0000
+}
+
+fn words_of(bytes: [u8; 16]) -> [u32; 4]
+    ensures { λ r. ⌜ r ≡ wordsOf bytes ⌝ }
+{
+    [
+        word(bytes[0], bytes[1], bytes[2], bytes[3]),
+        word(bytes[4], bytes[5], bytes[6], bytes[7]),
+        word(bytes[8], bytes[9], bytes[10], bytes[11]),
+        word(bytes[12], bytes[13], bytes[14], bytes[15]),
+    ]
+}
+
+// The low byte of a word.
+fn low(word: u32) -> u8
+    ensures { λ r. ⌜ r ≡ word % 2 ^ 8 ⌝ }
+{
+    (word % 0x100) as u8
+}
+
+fn bytes_of(words: [u32; 4]) -> [u8; 16]
+    ensures { λ r. ⌜ r ≡ bytesOf words ⌝ }
+{
+    let a = words[0];
+    let b = words[1];
+    let c = words[2];
+    let d = words[3];
+    [
+        low(a),
+        low(a >> 8),
+        low(a >> 16),
+        low(a >> 24),
+        low(b),
+        low(b >> 8),
+        low(b >> 16),
+        low(b >> 24),
+        low(c),
+        low(c >> 8),
+        low(c >> 16),
+        low(c >> 24),
+        low(d),
+        low(d >> 8),
+        low(d >> 16),
+        low(d >> 24),
+    ]
+}
+
+// Enciphers a block of 16 bytes: block and key are four words each, low byte first.
+pub fn encipher_block(key: [u8; 16], block: [u8; 16]) -> [u8; 16]
+    ensures { λ r. ⌜ r ≡ blockBy up key block ⌝ }
+{
+    let mut words = words_of(block);
+    encipher(&mut words, words_of(key));
+    bytes_of(words)
 }

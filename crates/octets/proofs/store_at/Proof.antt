@@ -1,0 +1,39 @@
+-- `octets::store_at` meets its contract: the part that was lent comes back as the data. Assumes nothing.
+use mathlib.Core.Path.{_≡_, refl, sym, _∙_}
+use native.Mathlib.Omega.{arith}
+use lib.ListN.{length}
+use Rattle.octets.proofs.Laws.{part-lent, length-lent, put-whole, put-back}
+use borrow.Author.Needs.{needs}
+use Rattle.octets.proofs.store_at.Statement.{statement}
+use Rattle.octets.proofs.store_at.Tie as tie
+
+add-end : tie.Need-add-end
+add-end c = search needs
+
+sub-store : tie.Need-sub-store
+sub-store c = search needs
+
+part-store-start : tie.Need-part-store-start
+part-store-start c = search needs
+
+part-store-end : tie.Need-part-store-end
+part-store-end c = search needs
+
+store-requires : tie.Need-store-requires
+store-requires c κs = search needs
+
+same-length : tie.Need-same-length
+same-length c = search needs
+
+returns : tie.Need-returns
+returns c =
+    let a = c .before .before .before .before .before .before .args in
+    let bs = a .«data» .now in
+    let l = length-lent (a .at) (length bs) (a .bytes .now) (c .before .before .before .before .before .before .pre) in
+    put-back (a .at) (length bs) (a .bytes .now) _ bs
+    (c .before .before .store .ensures ∙ rw (part-lent (a .at) (length bs) (a .bytes .now)) (put-whole bs _ (sym l))) refl (c .before .before .before .before .before .before .pre)
+
+pub store-at-spec : {M : Type 1} → statement M
+store-at-spec =
+    tie.close
+    (tie.spec add-end sub-store part-store-start part-store-end store-requires same-length returns)

@@ -1,0 +1,1 @@
+-- `octets` has no definitions of its own.
