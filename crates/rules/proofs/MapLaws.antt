@@ -1,5 +1,5 @@
 -- Laws of the address rule, of the header and of soundness. No other proof opens the address rule.
-use Prim.Native.Nat.{ℕ, _+_, _≤_}
+use Prim.Native.Nat.{ℕ, _+_, _%_, _≤_}
 use mathlib.Core.Path.{_≡_, refl, ap}
 use mathlib.Core.Bool.{true}
 use mathlib.Core.List.{List, [], _∷_}
@@ -12,10 +12,19 @@ use Rattle.rules.specs.Claims.{Sizes}
 use Rattle.rules.proofs.Tests.{all-true, all-and, all-none}
 use Rattle.rules.proofs.BytesLaws.{Apart, part-put, byte-put-out, byte-put, length-put}
 
--- where the segments begin: the units end before; 128 of them end just there
+-- where the segments begin: behind the units, with a spare place of at most 4,096 bytes between, and at a multiple of
+-- 4,096; 128 units end just there
 pub units-fit : (A : ℕ) → A ≤ most → unitAt A ≤ segmentsAt A
 unfolding most managements segmentsAt
 units-fit A h = omega arith
+
+pub spare-short : (A : ℕ) → segmentsAt A ≤ unitAt A + 4096
+unfolding managements segmentsAt
+spare-short A = omega arith
+
+pub segments-aligned : (A : ℕ) → segmentsAt A % 4096 ≡ 0
+unfolding managements segmentsAt
+segments-aligned A = omega arith
 
 pub units-fill : segmentsAt 128 ≡ unitAt 128
 unfolding managements segmentsAt

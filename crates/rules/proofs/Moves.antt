@@ -20,11 +20,11 @@ bit-same : (i b c : ℕ) → b / 2 ^ i % 2 ≡ c / 2 ^ i % 2 → bit i b ≡ bit
 unfolding bit
 bit-same i b c e = rw e
 
-bit-set : (i b : ℕ) → bit i b ≡ true → b / 2 ^ i % 2 ≡ 1
+pub bit-set : (i b : ℕ) → bit i b ≡ true → b / 2 ^ i % 2 ≡ 1
 unfolding bit
 bit-set i b e = eqb-true _ _ e
 
-bit-clear : (i b : ℕ) → bit i b ≡ false → b / 2 ^ i % 2 ≡ 0
+pub bit-clear : (i b : ℕ) → bit i b ≡ false → b / 2 ^ i % 2 ≡ 0
 unfolding bit
 bit-clear i b e = let z : b / 2 ^ i % 2 ≢ 1 = eqb-false _ _ e in let y : b / 2 ^ i % 2 < 2 = mod-lt _ (omega arith) in omega arith
 

@@ -1,22 +1,23 @@
 -- The table of places: a range is found in the place in which it lies, no other range is found, and every byte is in
 -- a place.
-use Prim.Native.Nat.{ℕ, zero, suc, _+_, _-_, _*_, _/_, _≤_, _<_}
+use Prim.Native.Nat.{ℕ, zero, suc, _+_, _-_, _*_, _/_, _%_, _≤_, _<_}
 use mathlib.Core.Path.{_≡_, refl, sym, ap, subst, _∙_}
 use mathlib.Core.Logic.{_≢_, _⊎_, inl, inr}
 use mathlib.Core.Bool.{Bool, true, false, cond}
 use mathlib.Core.List.{List, [], _∷_}
-use mathlib.Core.Option.{some}
+use mathlib.Core.Option.{Option, none, some}
+use lib.Dec.{leb, ltb}
 use native.Mathlib.Omega.{arith}
 use native.Mathlib.Nat.{mul-comm, div-lt-iff-lt-mul, mul-le-mul-left, mul-suc, mul-div-le, lt-mul-div-succ, div-eq-of-lt-le}
 use native.Mathlib.Decide.{ℕ-discrete, decLe}
-use borrow.Author.Tests.{leb-true, ltb-true, le-leb, lt-ltb}
+use borrow.Author.Tests.{leb-true, leb-false, ltb-true, ltb-false, le-leb, lt-ltb}
 use Rattle.rules.specs.declared.Place.{Place}
 use Rattle.rules.specs.declared.Place.the-variants.{Header, Hidden, RegisterOf, Pins, Readers, UnitOf, Spare, Segment, Public}
 use Rattle.rules.specs.Map.{Row, row, liesIn, find, rows, most, segmentAt, unitAt, segmentsAt, segments, placeOf, publics, sound, registerNo, registerAt, pinAt}
 use Rattle.rules.specs.Claims.{Within, Holds, TheMap, NoSpare}
 use Rattle.rules.proofs.Tests.{and-true, some-none, same-some}
 use Rattle.rules.proofs.BytesLaws.{Apart}
-use Rattle.rules.proofs.MapLaws.{units-fit, sound-facts, units-fill}
+use Rattle.rules.proofs.MapLaws.{units-fit, sound-facts, units-fill, segments-aligned, spare-short}
 
 -- ---- any list of rows that follow each other without a gap
 
@@ -144,18 +145,20 @@ rows-adjoin A P h =
     let ends : segmentAt A A + 4096 * P ≡ segmentAt A (A + P) = omega arith in
     (refl, (refl, (refl, (refl, (refl, (refl, (refl, (behind-spare, (behind, ends)))))))))
 
+found-in : (A P a n : ℕ) (p : Place) → A ≤ most → 1 ≤ n → Within p a n (rows A P) → find (rows A P) a n ≡ some p
+found-in A P a n p h l w = find-found (rows A P) _ _ a n p l (rows-adjoin A P h) w
+
 pub place-found : (t : List ℕ) (p : Place) (a n : ℕ) → segments t ≤ most → 1 ≤ n → Holds t p a n
     → placeOf t a n ≡ some p
 unfolding placeOf
-place-found t p a n h l w =
-    find-found (rows (segments t) (publics t)) _ _ a n p l (rows-adjoin (segments t) (publics t) h) w
+place-found t p a n h l w = found-in (segments t) (publics t) a n p h l w
 
 pub place-holds : (t : List ℕ) (p : Place) (a n : ℕ) → placeOf t a n ≡ some p → Holds t p a n
 unfolding placeOf
 place-holds t p a n e = find-within (rows (segments t) (publics t)) a n p e
 
-one-place : (t : List ℕ) (p q : Place) (a n : ℕ) → segments t ≤ most → 1 ≤ n → Holds t p a n → Holds t q a n → p ≡ q
-one-place t p q a n h l x y = same-some (sym (place-found t p a n h l x) ∙ place-found t q a n h l y)
+one-place : (A P a n : ℕ) (p q : Place) → A ≤ most → 1 ≤ n → Within p a n (rows A P) → Within q a n (rows A P) → p ≡ q
+one-place A P a n p q h l x y = same-some (sym (found-in A P a n p h l x) ∙ found-in A P a n q h l y)
 
 pub the-map : (t : List ℕ) → sound t ≡ true → TheMap t
 the-map t w =
@@ -164,7 +167,7 @@ the-map t w =
     record {
       found = λ p a n l x. place-found t p a n h l x;
       no-other = place-holds t;
-      one-place = λ p q a n l x y. one-place t p q a n h l x y;
+      one-place = λ p q a n l x y. one-place (segments t) (publics t) a n p q h l x y;
       every-byte = λ a b.
           let x = cover (rows (segments t) (publics t)) _ _ a (rows-adjoin _ _ h) (omega arith) (rw (← (f .long)) b) in
           (x .0, place-found t (x .0) a 1 h (omega arith) (x .1));
@@ -214,40 +217,8 @@ within-byte (row start size count place ∷ rs) p a n i (inr w) b c = inr (withi
 pub places-apart : (t : List ℕ) (p q : Place) (a n x m : ℕ) → sound t ≡ true → Holds t p a n → Holds t q x m
     → (p ≡ q → ⊥) → Apart a n x m
 places-apart t p q a n x m w v u d i b c e f =
-    d (one-place t p q i 1 (sound-facts t w .most-segments) (omega arith)
+    d (one-place (segments t) (publics t) i 1 p q (sound-facts t w .most-segments) (omega arith)
     (within-byte (rows (segments t) (publics t)) p a n i v b c) (within-byte (rows (segments t) (publics t)) q x m i u e f))
-
-pub header-holds : (t : List ℕ) (a n : ℕ) → a + n ≤ 16 → Holds t Header a n
-unfolding rows
-header-holds t a n h = inl (0, omega arith, refl, omega arith, omega arith)
-
-pub register-holds : (t : List ℕ) (i n : ℕ) → i < 7 → n ≤ 16 → Holds t (RegisterOf (registerNo i)) (registerAt i) n
-unfolding rows
-register-holds t i n h l = inr (inr (inl (i, h, refl, omega arith, omega arith)))
-
-pub unit-holds : (t : List ℕ) (k : ℕ) → k < segments t → Holds t (UnitOf k) (unitAt k) 32
-unfolding rows
-unit-holds t k h = inr (inr (inr (inr (inr (inl (k, h, refl, omega arith, omega arith))))))
-
--- the place of segment number k: the public ones count on from A
-pub data Numbered (A P k : ℕ) : Place → Type 0 where
-  controlled : k < A → Numbered A P k (Segment k)
-  open-to-all : (l : ℕ) → k ≡ A + l → l < P → Numbered A P k (Public l)
-
-pub numbered : (A P k : ℕ) → k < A + P → (p : Place) × Numbered A P k p
-numbered A P k h = by (decLe A k)
-  where
-    by : Dec (A ≤ k) → (p : Place) × Numbered A P k p
-    by (yes y) = (Public (k - A), open-to-all (k - A) (omega arith) (omega arith))
-    by (no y) = (Segment k, controlled (omega arith))
-
-pub segment-holds : (t : List ℕ) (k a n : ℕ) (p : Place) → Numbered (segments t) (publics t) k p
-    → segmentAt (segments t) k ≤ a → a + n ≤ segmentAt (segments t) k + 4096 → Holds t p a n
-unfolding rows
-segment-holds t k a n p (controlled h) b c =
-    inr (inr (inr (inr (inr (inr (inr (inl (k, h, refl, omega arith, omega arith))))))))
-segment-holds t k a n p (open-to-all l e h) b c =
-    inr (inr (inr (inr (inr (inr (inr (inr (inl (l, h, refl, omega arith, omega arith)))))))))
 
 -- ---- where each place lies
 
@@ -283,10 +254,105 @@ extent A P a n p h (inr (inr (inr (inr (inr (inr (inr (inl w)))))))) = rw (w .2)
 extent A P a n p h (inr (inr (inr (inr (inr (inr (inr (inr (inl w))))))))) = rw (w .2) (w .1, omega arith, omega arith)
 extent A P a n p h (inr (inr (inr (inr (inr (inr (inr (inr (inr w))))))))) = absurd w
 
+-- and back
+lies-at : (A P a n : ℕ) (p : Place) → Extent A P p a n → Within p a n (rows A P)
+unfolding rows
+lies-at A P a n Header e = inl (0, omega arith, refl, omega arith, omega arith)
+lies-at A P a n Hidden e = inr (inl (0, omega arith, refl, omega arith, omega arith))
+lies-at A P a n (RegisterOf r) e = inr (inr (inl (e .0, e .2, ap RegisterOf (e .1), omega arith, omega arith)))
+lies-at A P a n Pins e = inr (inr (inr (inl (0, omega arith, refl, omega arith, omega arith))))
+lies-at A P a n Readers e = inr (inr (inr (inr (inl (0, omega arith, refl, omega arith, omega arith)))))
+lies-at A P a n (UnitOf k) e = inr (inr (inr (inr (inr (inl (k, e .0, refl, omega arith, omega arith))))))
+lies-at A P a n Spare e = inr (inr (inr (inr (inr (inr (inl (0, omega arith, refl, omega arith, omega arith)))))))
+lies-at A P a n (Segment k) e =
+    inr (inr (inr (inr (inr (inr (inr (inl (k, e .0, refl, omega arith, omega arith))))))))
+lies-at A P a n (Public k) e =
+    inr (inr (inr (inr (inr (inr (inr (inr (inl (k, e .0, refl, omega arith, omega arith)))))))))
+
 pub placed : (t : List ℕ) (p : Place) (a n : ℕ) → sound t ≡ true → Holds t p a n → Extent (segments t) (publics t) p a n
 placed t p a n w h = extent (segments t) (publics t) a n p (sound-facts t w .most-segments) h
+
+pub header-holds : (t : List ℕ) (a n : ℕ) → a + n ≤ 16 → Holds t Header a n
+header-holds t a n h = lies-at _ _ a n Header h
+
+pub register-holds : (t : List ℕ) (i n : ℕ) → i < 7 → n ≤ 16 → Holds t (RegisterOf (registerNo i)) (registerAt i) n
+register-holds t i n h l = lies-at _ _ (registerAt i) n (RegisterOf _) (i, refl, h, omega arith, omega arith)
+
+pub unit-holds : (t : List ℕ) (k : ℕ) → k < segments t → Holds t (UnitOf k) (unitAt k) 32
+unit-holds t k h = lies-at _ _ (unitAt k) 32 (UnitOf k) (h, omega arith, omega arith)
+
+-- the place of segment number k: the public ones count on from A
+pub data Numbered (A P k : ℕ) : Place → Type 0 where
+  controlled : k < A → Numbered A P k (Segment k)
+  open-to-all : (l : ℕ) → k ≡ A + l → l < P → Numbered A P k (Public l)
+
+pub numbered : (A P k : ℕ) → k < A + P → (p : Place) × Numbered A P k p
+numbered A P k h = by (decLe A k)
+  where
+    by : Dec (A ≤ k) → (p : Place) × Numbered A P k p
+    by (yes y) = (Public (k - A), open-to-all (k - A) (omega arith) (omega arith))
+    by (no y) = (Segment k, controlled (omega arith))
+
+pub segment-holds : (t : List ℕ) (k a n : ℕ) (p : Place) → Numbered (segments t) (publics t) k p
+    → segmentAt (segments t) k ≤ a → a + n ≤ segmentAt (segments t) k + 4096 → Holds t p a n
+segment-holds t k a n p (controlled h) b c = lies-at _ _ a n (Segment k) (h, b, c)
+segment-holds t k a n p (open-to-all l e h) b c = lies-at _ _ a n (Public l) (h, omega arith, omega arith)
 
 pub no-spare : (t : List ℕ) → sound t ≡ true → segments t ≡ 128 → NoSpare t
 no-spare t w e a n l f =
     let x = subst (λ A. Extent A (publics t) Spare a n) e (placed t Spare a n w (place-holds t Spare a n f)) in
     absurd (omega (arith, units-fill, x .0, x .1))
+
+-- ---- what a range of addresses is found in
+
+module _ (A P a n : ℕ) (h : A ≤ most) where
+  pub found-at : (p : Place) → 1 ≤ n → Extent A P p a n → find (rows A P) a n ≡ some p
+  found-at p l e = found-in A P a n p h l (lies-at A P a n p e)
+
+  none-found : ((p : Place) → Within p a n (rows A P) → ⊥) → find (rows A P) a n ≡ none
+  none-found out = by (find (rows A P) a n) refl
+    where
+      by : (f : Option Place) → find (rows A P) a n ≡ f → f ≡ none
+      by none e = refl
+      by (some p) e = absurd (out p (find-within (rows A P) a n p e))
+
+  -- the place of the first byte holds them all, if there are not too many
+  pub found-up-to : (p : Place) (m : ℕ) → 1 ≤ n → Extent A P p a 1 → (n ≤ m → Extent A P p a n)
+      → (Extent A P p a n → n ≤ m) → find (rows A P) a n ≡ cond (leb n m) (some p) none
+  found-up-to p m l first fits only = by (leb n m) refl
+    where
+      by : (b : Bool) → leb n m ≡ b → find (rows A P) a n ≡ cond b (some p) none
+      by true e = found-at p l (fits (leb-true n m e))
+      by false e =
+          none-found (λ q w.
+          let byte = within-byte (rows A P) q a n a w (omega arith) (omega arith) in
+          let same = one-place A P a 1 q p h (omega arith) byte (lies-at A P a 1 p first) in
+          let x = only (subst (λ r. Extent A P r a n) same (extent A P a n q h w)) in
+          omega (arith, leb-false n m e))
+
+  -- behind the controlled segments the public ones are found, and nothing behind them
+  pub found-public : (k : ℕ) → 1 ≤ n → segmentAt A (A + k) ≤ a → a + n ≤ segmentAt A (A + k) + 4096
+      → find (rows A P) a n ≡ cond (ltb k P) (some (Public k)) none
+  found-public k l b c = by (ltb k P) refl
+    where
+      by : (f : Bool) → ltb k P ≡ f → find (rows A P) a n ≡ cond f (some (Public k)) none
+      by true e = found-at (Public k) l (ltb-true k P e, b, c)
+      by false e =
+          none-found (λ q w.
+          let x = within-end (rows A P) _ _ a n q (rows-adjoin A P h) w in
+          omega (arith, ltb-false k P e))
+
+  -- no place reaches from one 4,096 bytes into the next
+  pub none-across : 4096 < a % 4096 + n → find (rows A P) a n ≡ none
+  none-across l = none-found (λ q w. out q (extent A P a n q h w))
+    where
+      out : (q : Place) → Extent A P q a n → ⊥
+      out Header e = omega arith
+      out Hidden e = omega arith
+      out (RegisterOf r) e = omega arith
+      out Pins e = omega arith
+      out Readers e = omega arith
+      out (UnitOf k) e = omega arith
+      out Spare e = omega (arith, segments-aligned A, spare-short A)
+      out (Segment k) e = omega (arith, segments-aligned A)
+      out (Public k) e = omega (arith, segments-aligned A)

@@ -1,0 +1,165 @@
+// The header, soundness and the places of a tag: document 01, "The memory map". The definitions that the contracts
+// cite are in `rules`, Map.antt.
+ghost use mathlib.Core.Path.{_≡_};
+ghost use mathlib.Core.Bool.{true};
+ghost use Prim.Native.Nat.{ℕ, _+_, _%_, _≤_, _<_};
+ghost use lib.ListN.{length};
+ghost use Rattle.rules.specs.Map.{segments, publics, most, segmentsAt, sound, rows, registerNo, find, placeOf};
+ghost use Rattle.layout.specs.Found.{found, foundIf, countsFit, restFits};
+use rules::Place;
+use rules::Register;
+
+// The place that holds a range of addresses, if one does.
+pub enum Found {
+    In(Place),
+    Outside,
+}
+
+// A, the number of access-controlled segments.
+pub fn segments(tag: &[u8]) -> usize
+    requires { ⌜ 4 ≤ length (now tag) ⌝ }
+    ensures { λ r. ⌜ r ≡ segments (now (tag .entry)) ⌝ }
+{
+    octets::number16(tag, 0)
+}
+
+// P, the number of public segments.
+pub fn publics(tag: &[u8]) -> usize
+    requires { ⌜ 4 ≤ length (now tag) ⌝ }
+    ensures { λ r. ⌜ r ≡ publics (now (tag .entry)) ⌝ }
+{
+    octets::number16(tag, 2)
+}
+
+// Where the segments begin, behind the units of A segments.
+fn segments_at(_a: usize) -> usize
+    ensures { λ r. ⌜ r ≡ segmentsAt «_a» ⌝ }
+{
+    16384
+}
+
+// The tests of soundness on the length and the two counts.
+fn counts_fit(length: usize, a: usize, p: usize) -> bool
+    requires { ⌜ (a < 65536) × (p < 65536) ⌝ }
+    ensures { λ r. ⌜ r ≡ countsFit length a p ⌝ }
+{
+    (length == segments_at(a) + 4096 * (a + p)) & (1 <= a) & (a <= 128) & (p <= 128)
+}
+
+// The tests on the flag, the three zeros and PIN 0.
+fn rest_fits(tag: &[u8]) -> bool
+    requires { ⌜ 4112 ≤ length (now tag) ⌝ }
+    ensures { λ r. ⌜ r ≡ restFits (now (tag .entry)) ⌝ }
+{
+    (tag[12] <= 1) & octets::all_zero(&tag[13..16]) & octets::all_zero(&tag[4096..4112])
+}
+
+pub fn sound(tag: &[u8]) -> bool
+    ensures { λ r. ⌜ r ≡ sound (now (tag .entry)) ⌝ }
+{
+    if tag.len() < 20480 {
+        return false;
+    }
+    counts_fit(tag.len(), segments(tag), publics(tag)) & rest_fits(tag)
+}
+
+fn within(fits: bool, place: Place) -> Found
+    ensures { λ r. ⌜ found r ≡ foundIf fits place ⌝ }
+{
+    if fits {
+        Found::In(place)
+    } else {
+        Found::Outside
+    }
+}
+
+// The registers, in the order of their addresses.
+fn register_no(i: usize) -> Register
+    ensures { λ r. ⌜ r ≡ registerNo i ⌝ }
+{
+    match i {
+        0 => Register::Read,
+        1 => Register::Write,
+        2 => Register::Edit,
+        3 => Register::Name,
+        4 => Register::Id,
+        5 => Register::Commit,
+        _ => Register::Pa,
+    }
+}
+
+// The places of the first segment: header, hidden part, registers.
+fn first_place(at: usize, n: usize) -> Found
+    requires { ⌜ (at + n ≤ 4096) × (1 ≤ n) ⌝ }
+    ensures { λ r. ⌜ ((a p : ℕ) → a ≤ most → found r ≡ find (rows a p) at n) ⌝ }
+{
+    if at < 16 {
+        return within(n <= 16 - at, Place::Header);
+    }
+    if at < 3984 {
+        return within(n <= 3984 - at, Place::Hidden);
+    }
+    within(
+        n <= 16 - at % 16,
+        Place::RegisterOf(register_no((at - 3984) / 16)),
+    )
+}
+
+// The first three segments, which are the same on every tag.
+fn fixed_place(at: usize, n: usize) -> Found
+    requires { ⌜ (at < 12288) × (at % 4096 + n ≤ 4096) × (1 ≤ n) ⌝ }
+    ensures { λ r. ⌜ ((a p : ℕ) → a ≤ most → found r ≡ find (rows a p) at n) ⌝ }
+{
+    if at < 4096 {
+        return first_place(at, n);
+    }
+    if at < 8192 {
+        Found::In(Place::Pins)
+    } else {
+        Found::In(Place::Readers)
+    }
+}
+
+// The units, and the spare place behind them.
+fn unit_place(a: usize, at: usize, n: usize) -> Found
+    requires { ⌜ (a ≤ most) × (12288 ≤ at) × (at + n ≤ segmentsAt a) × (1 ≤ n) ⌝ }
+    ensures { λ r. ⌜ ((p : ℕ) → found r ≡ find (rows a p) at n) ⌝ }
+{
+    let k = (at - 12288) / 32;
+    if k < a {
+        within(n <= 32 - at % 32, Place::UnitOf(k))
+    } else {
+        Found::In(Place::Spare)
+    }
+}
+
+// The segment of 4,096 bytes that holds n bytes, which do not reach beyond one.
+fn segment_place(a: usize, p: usize, at: usize, n: usize) -> Found
+    requires { ⌜ (a ≤ most) × (segmentsAt a ≤ at) × (at % 4096 + n ≤ 4096) × (1 ≤ n) ⌝ }
+    ensures { λ r. ⌜ found r ≡ find (rows a p) at n ⌝ }
+{
+    let k = (at - segments_at(a)) / 4096;
+    if k < a {
+        return Found::In(Place::Segment(k));
+    }
+    within(k - a < p, Place::Public(k - a))
+}
+
+// The place that holds n bytes at an address. No place reaches beyond 4,096 bytes.
+pub fn place_of(tag: &[u8], at: usize, n: usize) -> Found
+    requires { ⌜ (sound (now tag) ≡ true) × (1 ≤ n) ⌝ }
+    ensures { λ r. ⌜ found r ≡ placeOf (now (tag .entry)) at n ⌝ }
+{
+    if 4096 - at % 4096 < n {
+        return Found::Outside;
+    }
+    let a = segments(tag);
+    if segments_at(a) <= at {
+        return segment_place(a, publics(tag), at, n);
+    }
+    if at < 12288 {
+        fixed_place(at, n)
+    } else {
+        unit_place(a, at, n)
+    }
+}

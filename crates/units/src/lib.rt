@@ -1,0 +1,164 @@
+// The management unit: what its bytes say, and what an edit or an advance makes of it. Document 01, "The unit". The
+// definitions that the contracts cite are in `rules`, Units.antt and Refusals.antt. A unit is its 32 bytes: whoever
+// calls hands over just these.
+ghost use mathlib.Core.Path.{_≡_};
+ghost use lib.ListN.{length};
+ghost use Rattle.rules.specs.Bytes.{put};
+ghost use Rattle.rules.specs.Units.{unitOf};
+ghost use Rattle.rules.specs.Refusals.{editAllowed, keepsModel};
+ghost use Rattle.units.specs.Decoded.{decoded, modelRead, bytesFit, unitWith, mayBecome, opened, movedTo};
+use rules::Model;
+use rules::Stage;
+use rules::Unit;
+
+// A unit's bytes, read: the unit, if they are well formed.
+pub enum Decoded {
+    Unit(Unit),
+    Malformed,
+}
+
+// A unit's model, if control byte and model byte fit together.
+enum ModelRead {
+    Known(Model),
+    Unknown,
+}
+
+fn known(fits: bool, model: Model) -> ModelRead
+    ensures { λ r. ⌜ r ≡ Rattle.units.specs.Decoded.known fits model ⌝ }
+{
+    if fits {
+        ModelRead::Known(model)
+    } else {
+        ModelRead::Unknown
+    }
+}
+
+// The model that byte 1 names, with M, RD and WR in the control byte. The stage stands in the high four bits.
+fn model_of(control: u8, byte: u8) -> ModelRead
+    ensures { λ r. ⌜ r ≡ modelRead control byte ⌝ }
+{
+    if control % 2 != 1 {
+        return ModelRead::Known(Model::Default);
+    }
+    let rd = control / 128 % 2 == 1;
+    let wr = control / 32 % 2 == 1;
+    match byte {
+        0x00 => ModelRead::Known(Model::Default),
+        0x01 => known((rd & !wr) | (!rd & wr), Model::WriteOnce),
+        0x02 => known(rd & wr, Model::Counter),
+        0x03 => known(!rd & wr, Model::Receiver(Stage::Zero)),
+        0x13 => known(!rd & wr, Model::Receiver(Stage::One)),
+        0x23 => known(rd & !wr, Model::Receiver(Stage::Two)),
+        _ => ModelRead::Unknown,
+    }
+}
+
+// The tests of a well-formed unit that do not ask for its model: RFU, the zero bytes, the indexes.
+fn bytes_fit(unit: &[u8]) -> bool
+    requires { ⌜ length (now unit) ≡ 32 ⌝ }
+    ensures { λ r. ⌜ r ≡ bytesFit (now (unit .entry)) ⌝ }
+{
+    (unit[0] / 2 % 2 != 1)
+        & octets::all_zero(&unit[2..4])
+        & (octets::number16(unit, 4) <= 255)
+        & (octets::number16(unit, 6) <= 255)
+        & (octets::number16(unit, 8) <= 255)
+        & octets::all_zero(&unit[10..16])
+}
+
+fn unit_with(unit: &[u8], model: Model) -> Unit
+    requires { ⌜ length (now unit) ≡ 32 ⌝ }
+    ensures { λ r. ⌜ r ≡ unitWith (now (unit .entry)) model ⌝ }
+{
+    let control = unit[0];
+    Unit {
+        rd: control / 128 % 2 == 1,
+        rdpin: control / 64 % 2 == 1,
+        wr: control / 32 % 2 == 1,
+        wrpin: control / 16 % 2 == 1,
+        pn: control / 8 % 2 == 1,
+        ne: control / 4 % 2 == 1,
+        model,
+        read: octets::number16(unit, 4),
+        write: octets::number16(unit, 6),
+        edit: octets::number16(unit, 8),
+    }
+}
+
+// The unit that 32 bytes hold.
+pub fn decode(unit: &[u8]) -> Decoded
+    requires { ⌜ length (now unit) ≡ 32 ⌝ }
+    ensures { λ r. ⌜ r ≡ decoded (now (unit .entry)) ⌝ }
+{
+    if !bytes_fit(unit) {
+        return Decoded::Malformed;
+    }
+    let ModelRead::Known(model) = model_of(unit[0], unit[1]) else {
+        return Decoded::Malformed;
+    };
+    Decoded::Unit(unit_with(unit, model))
+}
+
+// Whether M, RD, WR and byte 1 stay.
+fn keeps_model(old: &[u8], new: &[u8]) -> bool
+    requires { ⌜ (length (now old) ≡ 32) × (length (now new) ≡ 32) ⌝ }
+    ensures { λ r. ⌜ r ≡ keepsModel (now (old .entry)) (now (new .entry)) ⌝ }
+{
+    (old[0] % 2 == new[0] % 2)
+        & (old[0] / 128 % 2 == new[0] / 128 % 2)
+        & (old[0] / 32 % 2 == new[0] / 32 % 2)
+        & (old[1] == new[1])
+}
+
+// Whether an edit may bring a unit to this model: of model 3 only its stage 0.
+fn may_become(model: Model) -> bool
+    ensures { λ r. ⌜ r ≡ mayBecome model ⌝ }
+{
+    let Model::Receiver(stage) = model else {
+        return true;
+    };
+    match stage {
+        Stage::Zero => true,
+        Stage::One => false,
+        Stage::Two => false,
+    }
+}
+
+// Whether an edit may turn a unit of this model, with bytes `old`, into `new`.
+pub fn edit_allowed(model: Model, old: &[u8], new: &[u8]) -> bool
+    requires { ⌜ (length (now old) ≡ 32) × (length (now new) ≡ 32) ⌝ }
+    ensures { λ r. ⌜ (model ≡ unitOf (now (old .entry)) .model → r ≡ editAllowed (now (old .entry)) (now (new .entry))) ⌝ }
+{
+    let Decoded::Unit(unit) = decode(new) else {
+        return false;
+    };
+    let Model::Receiver(_) = model else {
+        let next = unit.model;
+        return may_become(next);
+    };
+    keeps_model(old, new)
+}
+
+// The control byte with WR cleared and RD set.
+pub fn read_only(control: u8) -> u8
+    ensures { λ r. ⌜ r ≡ opened control ⌝ }
+{
+    128 + 64 * (control / 64 % 2) + control % 32
+}
+
+// A unit of model 3 goes from this stage to the next.
+pub fn advance(unit: &mut [u8], stage: Stage)
+    requires { ⌜ length (now unit) ≡ 32 ⌝ }
+    ensures { λ _. ⌜ now (unit .exit) ≡ put 0 (movedTo stage (now (unit .entry))) (now (unit .entry)) ⌝ }
+{
+    match stage {
+        Stage::Zero => {
+            unit[1] = 0x13;
+        }
+        Stage::One => {
+            unit[0] = read_only(unit[0]);
+            unit[1] = 0x23;
+        }
+        Stage::Two => {}
+    }
+}
