@@ -74,22 +74,30 @@ part-put-same zero [] (x ∷ t) h = refl
 part-put-same zero (b ∷ bs) (x ∷ t) h = ap {B = List ℕ} (λ r. b ∷ r) (part-put-same zero bs t (omega arith))
 part-put-same (suc a) bs (x ∷ t) h = part-put-same a bs t (omega arith)
 
--- a store at the start of a part is a store in the part
-take-put : (n : ℕ) (bs t : List ℕ) → take n (put 0 bs t) ≡ put 0 bs (take n t)
+-- a store that begins in a part is a store in the part
+take-put : (n o : ℕ) (bs t : List ℕ) → take n (put o bs t) ≡ put o bs (take n t)
 unfolding put
-take-put zero bs [] = refl
-take-put zero [] (x ∷ t) = refl
-take-put zero (b ∷ bs) (x ∷ t) = refl
-take-put (suc n) bs [] = refl
-take-put (suc n) [] (x ∷ t) = refl
-take-put (suc n) (b ∷ bs) (x ∷ t) = ap {B = List ℕ} (λ r. b ∷ r) (take-put n bs t)
+take-put zero o bs [] = refl
+take-put zero zero [] (x ∷ t) = refl
+take-put zero zero (b ∷ bs) (x ∷ t) = refl
+take-put zero (suc o) bs (x ∷ t) = refl
+take-put (suc n) o bs [] = refl
+take-put (suc n) zero [] (x ∷ t) = refl
+take-put (suc n) zero (b ∷ bs) (x ∷ t) = ap {B = List ℕ} (λ r. b ∷ r) (take-put n zero bs t)
+take-put (suc n) (suc o) bs (x ∷ t) = ap {B = List ℕ} (λ r. x ∷ r) (take-put n o bs t)
+
+drop-put : (x o : ℕ) (bs t : List ℕ) → drop x (put (x + o) bs t) ≡ put o bs (drop x t)
+unfolding put
+drop-put zero o bs t = let e : 0 + o ≡ o = omega arith in rw e
+drop-put (suc x) o bs [] = refl
+drop-put (suc x) o bs (y ∷ t) = let e : suc x + o ≡ suc (x + o) = omega arith in rw e (drop-put x o bs t)
+
+pub part-put-inside : (x n o : ℕ) (bs t : List ℕ) → part x n (put (x + o) bs t) ≡ put o bs (part x n t)
+unfolding part
+part-put-inside x n o bs t = ap (take n) (drop-put x o bs t) ∙ take-put n o bs (drop x t)
 
 pub part-put-start : (a n : ℕ) (bs t : List ℕ) → part a n (put a bs t) ≡ put 0 bs (part a n t)
-unfolding part put
-part-put-start zero n bs t = take-put n bs t
-part-put-start (suc a) zero bs [] = refl
-part-put-start (suc a) (suc n) bs [] = refl
-part-put-start (suc a) n bs (x ∷ t) = part-put-start a n bs t
+part-put-start a n bs t = let e : a + 0 ≡ a = omega arith in rw e at (part-put-inside a n 0 bs t)
 
 -- two stores that touch no common byte may change places
 pub put-comm : (a x : ℕ) (bs ys t : List ℕ) → Apart a (length bs) x (length ys)

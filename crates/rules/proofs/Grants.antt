@@ -48,7 +48,7 @@ pub record Granted (E : Cipher) (s : State) (a : ℕ) (bs : List ℕ) : Type 0 w
   pub free : lowest (writeChecks E s place a bs) ≡ none
   pub long : 1 ≤ length bs
 
-in-place : (q : Option Place) (f : Place → Checks) → lowest (inPlace q f) ≡ none
+pub in-place : (q : Option Place) (f : Place → Checks) → lowest (inPlace q f) ≡ none
     → (p : Place) × (q ≡ some p) × (lowest (f p) ≡ none)
 unfolding inPlace lowest
 in-place none f h = some-none h

@@ -1,0 +1,35 @@
+-- `tag::advance` meets its contract: a tag that is not sound gives 1. Assumes nothing.
+use mathlib.Core.Path.{sym, _∙_}
+use borrow.Author.Tests.{not-true, not-false}
+use Rattle.rules.specs.State.{state}
+use Rattle.rules.specs.Command.{advance}
+use Rattle.tag.proofs.ActLaws.{unsound}
+use borrow.Author.Needs.{needs}
+use Rattle.tag.proofs.advance.Statement.{statement}
+use Rattle.tag.proofs.advance.Tie as tie
+
+sound-requires : tie.Need-sound-requires
+sound-requires c κs = search needs
+
+same-length : tie.Need-same-length
+same-length c = search needs
+
+returns : tie.Need-returns
+returns c =
+    let a = c .before .before .before .before .args in
+    let n = sym (c .before .sound .ensures) ∙ not-true _ (c .if1 .taken) in
+    unsound (state (a .tag .now) (a .session)) (advance (a .segment)) tt n
+
+advance-sound-requires : tie.Need-advance-sound-requires
+advance-sound-requires c κs = sym (c .before .before .sound .ensures) ∙ not-false _ (c .before .if1 .left)
+
+same-length-2 : tie.Need-same-length-2
+same-length-2 c = search needs
+
+returns-2 : tie.Need-returns-2
+returns-2 c = search needs
+
+pub advance-spec : {M : Type 1} → statement M
+advance-spec =
+    tie.close
+    (tie.spec sound-requires same-length returns advance-sound-requires same-length-2 returns-2)

@@ -1,0 +1,84 @@
+-- `tag::judge_response` meets its contract: test by test. Assumes nothing.
+use mathlib.Core.Path.{sym, ap, _∙_}
+use mathlib.Core.Bool.{not}
+use native.Mathlib.Omega.{arith}
+use Rattle.rules.specs.Bytes.{same}
+use Rattle.rules.specs.State.{pin}
+use Rattle.rules.specs.Answers.{refusalOf}
+use Rattle.tag.proofs.Laws.{gives, leaves, nothing}
+use Rattle.tag.proofs.RegisterLaws.{index-within, two-refuse, two-held}
+use borrow.Author.Needs.{needs}
+use Rattle.tag.proofs.judge_response.Statement.{statement}
+use Rattle.tag.proofs.judge_response.Tie as tie
+
+judge-flag-requires : tie.Need-judge-flag-requires
+judge-flag-requires c κs = search needs
+
+enum-known-held : tie.Need-enum-known-held
+enum-known-held c = search needs
+
+returns : tie.Need-returns
+returns c =
+    let at = c .before in
+    sym (two-refuse 9 10 _ _ _ _ (sym (at .before .before .judge-flag .ensures) ∙ ap refusalOf (at .held .given .1)))
+
+enum-told : tie.Need-enum-told
+enum-told c = search needs
+
+mul-response : tie.Need-mul-response
+mul-response c =
+    let flagged = c .before .before in
+    let i = flagged .before .before .before .args .pin in
+    omega (arith, index-within 9 i 255 _ _ (flagged .judge-flag .ensures) (c .enum-told .given .1))
+
+add-response : tie.Need-add-response
+add-response c =
+    let flagged = c .before .before in
+    let i = flagged .before .before .before .args .pin in
+    omega (arith, index-within 9 i 255 _ _ (flagged .judge-flag .ensures) (c .enum-told .given .1))
+
+response-requires : tie.Need-response-requires
+response-requires c κs =
+    let flagged = c .before .before in
+    let i = flagged .before .before .before .args .pin in
+    omega (arith, index-within 9 i 255 _ _ (flagged .judge-flag .ensures) (c .enum-told .given .1))
+
+slice-aggregate-equal : tie.Need-slice-aggregate-equal
+slice-aggregate-equal c = search needs
+
+equal-requires : tie.Need-equal-requires
+equal-requires c κs = search needs
+
+returns-2 : tie.Need-returns-2
+unfolding pin
+returns-2 c =
+    let at = c .before .before .before in
+    let told = at .before in
+    let held = sym (told .before .before .judge-flag .ensures) ∙ ap refusalOf (told .enum-told .given .1) in
+    let equal = sym (ap (same _) (at .response .ensures)) ∙ sym (c .before .equal .ensures) ∙ c .if1 .taken in
+    sym (two-held 9 10 _ _ _ held ∙ leaves 11 _ _ (ap not equal) ∙ nothing)
+
+returns-3 : tie.Need-returns-3
+unfolding pin
+returns-3 c =
+    let at = c .before .before .before in
+    let told = at .before in
+    let held = sym (told .before .before .judge-flag .ensures) ∙ ap refusalOf (told .enum-told .given .1) in
+    let equal = sym (ap (same _) (at .response .ensures)) ∙ sym (c .before .equal .ensures) ∙ c .if1 .left in
+    sym (two-held 9 10 _ _ _ held ∙ gives 11 _ _ (ap not equal))
+
+pub judge-response-spec : {M : Type 1} → statement M
+judge-response-spec =
+    tie.close
+    (tie.spec
+    judge-flag-requires
+    enum-known-held
+    returns
+    enum-told
+    mul-response
+    add-response
+    response-requires
+    slice-aggregate-equal
+    equal-requires
+    returns-2
+    returns-3)
