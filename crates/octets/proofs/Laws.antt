@@ -191,6 +191,16 @@ xor-rest i xs ys (inr h) = unwritten i xs ys h
     unwritten zero (x ∷ xs) (y ∷ ys) h = absurd (omega arith)
     unwritten (suc i) (x ∷ xs) (y ∷ ys) h = unwritten i xs ys (omega arith)
 
+-- ---- one byte
+
+-- a byte that is set is a store
+pub set-put : (i v : ℕ) (t : List ℕ) → set t i v ≡ put i (v ∷ []) t
+unfolding put
+set-put i v [] = refl
+set-put zero v (x ∷ []) = refl
+set-put zero v (x ∷ y ∷ t) = refl
+set-put (suc i) v (x ∷ t) = ap (λ l. x ∷ l) (set-put i v t)
+
 -- ---- a part that is lent, and comes back changed
 
 pub part-lent : (a n : ℕ) (t : List ℕ) → midOf a (a + n - a) t ≡ part a n t

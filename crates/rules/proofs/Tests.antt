@@ -55,6 +55,17 @@ unfolding lowest
 clears n true cs e h = true-false e
 clears n false cs e h = h
 
+-- a test that holds gives its number; one that does not leaves the rest to decide
+pub gives : (n : ℕ) (b : Bool) (cs : Checks) → b ≡ true → lowest (n when b else cs) ≡ some n
+unfolding lowest
+gives n true cs e = refl
+gives n false cs e = true-false (sym e)
+
+pub leaves : (n : ℕ) (b : Bool) (cs : Checks) → b ≡ false → lowest (n when b else cs) ≡ lowest cs
+unfolding lowest
+leaves n true cs e = true-false e
+leaves n false cs e = refl
+
 pub none-applies : lowest granted ≡ none
 unfolding lowest
 none-applies = refl

@@ -39,8 +39,10 @@ use Rattle.units.proofs.Laws.{once-writable, opened-read-only}
 use Rattle.octets.proofs.Laws.{xor-swap, length-lent}
 use Rattle.tag.specs.declared.Verdict.{Verdict}
 use Rattle.tag.specs.declared.Verdict.the-variants as verdict
-use Rattle.tag.specs.Contract.{E, CarriedOut}
-use Rattle.tag.specs.Verdict.{Judged, answerOf, actOf, actIn, actAt, storesBy, Fits, Taken}
+use Rattle.registers.specs.Registers.{E}
+use Rattle.tag.specs.Contract.{CarriedOut}
+use Rattle.tag.specs.Verdict.{Judged, answerOf, actOf, actIn, actAt, storesBy, Fits}
+use Rattle.registers.specs.Registers.{Taken}
 use Rattle.rules.proofs.Refusal as the-refusal
 use Rattle.tag.proofs.Verdict as the-verdict
 

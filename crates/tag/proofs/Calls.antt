@@ -29,7 +29,8 @@ use Rattle.rules.proofs.Demand3.{demand-3}
 use Rattle.rules.proofs.Counting.{one-answer-each}
 use Rattle.octets.proofs.Laws.{length-lent}
 use Rattle.tag.specs.declared.Outcome.{Outcome}
-use Rattle.tag.specs.Contract.{E, CarriedOut}
+use Rattle.registers.specs.Registers.{E}
+use Rattle.tag.specs.Contract.{CarriedOut}
 use Rattle.tag.specs.Calls.{RefusedCall, RefusedChangesNothing, RefusedReadsNothing, replyOf, Call, reads, writes, advances, powers-up, Calls, no-more, then, Demand3, Promises}
 use Rattle.tag.proofs.ActLaws.{eleven-or-none}
 

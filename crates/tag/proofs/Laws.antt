@@ -16,24 +16,6 @@ use Rattle.tag.specs.declared.Verdict.{Verdict}
 use Rattle.tag.specs.declared.Verdict.the-variants.{Refuse}
 use Rattle.tag.specs.Verdict.{Judged, answerOf, verdictOf, rights}
 
--- a test that holds gives its number; one that does not leaves the rest
-pub gives : (n : ℕ) (b : Bool) (cs : Checks) → b ≡ true → lowest (n when b else cs) ≡ some n
-unfolding lowest
-gives n true cs e = refl
-gives n false cs e = some-none (e-none e)
-  where
-    e-none : false ≡ true → some n ≡ none
-    e-none e = cc
-
-pub leaves : (n : ℕ) (b : Bool) (cs : Checks) → b ≡ false → lowest (n when b else cs) ≡ lowest cs
-unfolding lowest
-leaves n false cs e = refl
-leaves n true cs e = cc
-
-pub nothing : lowest granted ≡ none
-unfolding lowest
-nothing = refl
-
 -- ---- verdicts
 
 pub refuses : (cs : Checks) (act : Verdict) (r : Refusal) → lowest cs ≡ some (numberOf r) → Judged cs act (Refuse r)
@@ -66,13 +48,3 @@ rights-held true p n cs e = some-none e
 rights-held false true n cs e = some-none e
 rights-held false false true cs e = some-none e
 rights-held false false false cs e = refl
-
--- ---- bytes
-
--- a byte that is set is a store
-pub set-put : (i v : ℕ) (t : List ℕ) → set t i v ≡ put i (v ∷ []) t
-unfolding put
-set-put i v [] = refl
-set-put zero v (x ∷ []) = refl
-set-put zero v (x ∷ y ∷ t) = refl
-set-put (suc i) v (x ∷ t) = ap (λ l. x ∷ l) (set-put i v t)

@@ -2,6 +2,5 @@
 pub mod Laws
 pub mod ReadLaws
 pub mod WriteLaws
-pub mod RegisterLaws
 pub mod ActLaws
 pub mod Calls

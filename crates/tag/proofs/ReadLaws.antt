@@ -34,7 +34,7 @@ use Rattle.rules.specs.Effects.{apply, advanceStores, advanced}
 use Rattle.rules.specs.Command.{read, advance, checks, refusal, inPlace, reply, replyBy, grant, filled}
 use Rattle.rules.specs.Command.{after, afterBy, stores, newSession}
 use Rattle.rules.specs.Claims.{Applies}
-use Rattle.rules.proofs.Tests.{true-false, some-none, or-false, passes}
+use Rattle.rules.proofs.Tests.{true-false, some-none, or-false, passes, gives, leaves, none-applies}
 use Rattle.rules.proofs.BytesLaws.{length-put, byte-part}
 use Rattle.rules.proofs.MapLaws.{sound-long, sizes}
 use Rattle.rules.proofs.Places.{the-map, place-holds, placed, Extent}
@@ -47,7 +47,6 @@ use Rattle.units.proofs.Laws.{decoded-whole, decoded-malformed, moved-advanced}
 use Rattle.tag.specs.declared.Move.{Move}
 use Rattle.tag.specs.declared.Move.the-variants.{Advance, Refuse}
 use Rattle.tag.specs.Verdict.{rights, MoveJudged, moveAnswer}
-use Rattle.tag.proofs.Laws.{gives, leaves, nothing}
 
 -- ---- 5, by what a unit is decoded to
 
@@ -76,15 +75,15 @@ unit-read-by u o x e = formed u x _ e ∙ rw (decoded-whole u x e .1)
 pub readable : (s : State) (p : Place) (a n : ℕ) → OneOf (0 ∷ 4 ∷ 8 ∷ []) (tagOf the-place.the-type p)
     → lowest (readChecks s p a n) ≡ none
 unfolding readChecks
-readable s Header a n o = nothing
+readable s Header a n o = none-applies
 readable s Hidden a n o = absurd (miss (0 ∷ 4 ∷ 8 ∷ []) 1 tt o)
 readable s (RegisterOf r) a n o = absurd (miss (0 ∷ 4 ∷ 8 ∷ []) 2 tt o)
 readable s Pins a n o = absurd (miss (0 ∷ 4 ∷ 8 ∷ []) 3 tt o)
-readable s Readers a n o = nothing
+readable s Readers a n o = none-applies
 readable s (UnitOf k) a n o = absurd (miss (0 ∷ 4 ∷ 8 ∷ []) 5 tt o)
 readable s Spare a n o = absurd (miss (0 ∷ 4 ∷ 8 ∷ []) 6 tt o)
 readable s (Segment k) a n o = absurd (miss (0 ∷ 4 ∷ 8 ∷ []) 7 tt o)
-readable s (Public k) a n o = nothing
+readable s (Public k) a n o = none-applies
 
 pub unreadable : (s : State) (p : Place) (a n : ℕ) → OneOf (1 ∷ 2 ∷ 3 ∷ 6 ∷ []) (tagOf the-place.the-type p)
     → lowest (readChecks s p a n) ≡ some 4

@@ -17,7 +17,8 @@ use Rattle.rules.specs.Demand3.{LockedCounter, slot, valueAt, grants, Entry, wi
 use Rattle.rules.specs.Map.{sound}
 use Rattle.rules.specs.Run.{final, replies}
 use Rattle.tag.specs.declared.Outcome.{Outcome}
-use Rattle.tag.specs.Contract.{E, CarriedOut}
+use Rattle.registers.specs.Registers.{E}
+use Rattle.tag.specs.Contract.{CarriedOut}
 
 -- ---- demand 1: "A refused command changes no byte of the tag, session or output, save that a wrong PIN response or
 -- commit guard marks the roll-back counter as used"

@@ -1,17 +1,12 @@
 -- What the public functions owe, by the rules with XXTEA as the cipher. Assumes nothing.
+use Prim.Native.Nat.{ℕ}
 use mathlib.Core.Path.{_≡_}
 use mathlib.Core.List.{List}
-use Prim.Native.Nat.{ℕ}
-use Rattle.xxtea.specs.Xxtea.{up}
-use Rattle.xxtea.specs.Block.{blockBy}
-use Rattle.rules.specs.State.{Cipher, State, state}
+use Rattle.rules.specs.State.{State, state}
 use Rattle.rules.specs.Answers.{refusalOf}
 use Rattle.rules.specs.Command.{Command, refusal, after}
+use Rattle.registers.specs.Registers.{E}
 use Rattle.tag.specs.declared.Outcome.{Outcome}
-
--- "XXTEA .. A PIN is the key and a block is 16 bytes"
-abbrev pub E : Cipher
-E = blockBy up
 
 -- a call that carries the command c out on the state s, answers o and leaves the tag t: the answer is the grant or the
 -- refusal that the rules give, and the tag and the session are what they leave

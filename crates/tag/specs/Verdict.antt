@@ -26,7 +26,7 @@ use Rattle.rules.specs.Answers.{refusalOf, numberOf}
 use Rattle.rules.specs.Refusals.{Checks, _when_else_, granted, lowest}
 use Rattle.rules.specs.Effects.{Store, _↤_, setFlag, refusalStores}
 use Rattle.units.specs.Decoded.{opened}
-use Rattle.tag.specs.Contract.{E}
+use Rattle.registers.specs.Registers.{E}
 use Rattle.tag.specs.declared.Verdict.{Verdict}
 use Rattle.tag.specs.declared.Verdict.the-variants as verdict
 use Rattle.tag.specs.declared.Move.{Move}
@@ -97,32 +97,6 @@ Fits t a bs (verdict.StoreOnce k) = (a + length bs ≤ length t) × (unitAt k < 
 Fits t a bs verdict.NextCount = a + length bs ≤ length t
 Fits t a bs (verdict.Take r) = Prim.Unit
 Fits t a bs (verdict.Refuse r) = Prim.Unit
-
--- ---- registers
-
--- the checks of READ, WRITE and EDIT, and of COMMIT, on 16 bytes and the PA array
-abbrev pub pinChecks : List ℕ → ℕ → List ℕ → Checks
-pinChecks t i bs =
-    9 when not (leb i 255) else
-    10 when eqb (flag t) 1 else
-    11 when not (same bs (response E (pin t i) t)) else
-    granted
-
-abbrev pub guardChecks : List ℕ → List ℕ → List ℕ → Checks
-guardChecks t pa bs =
-    9 when not (leb (number (part 0 2 pa)) 255) else
-    9 when eqb (number (part 0 2 pa)) 0 else
-    9 when not (leb (number (part 2 2 pa)) 3) else
-    10 when eqb (flag t) 1 else
-    11 when not (same (part 4 12 pa) (part 4 12 (E (owner t (number (part 2 2 pa))) bs))) else
-    granted
-
--- that a register's write can be carried out
-pub record Taken (t : List ℕ) (v : Session) (r : Register) (bs : List ℕ) : Type 0 where
-  pub long : 8192 ≤ length t
-  pub whole : length bs ≡ 16
-  pub pinned : (r ≡ Name) ⊎ (r ≡ Commit) → pinIndex v ≤ 255
-  pub owned : r ≡ Commit → ownerIndex v ≤ 3
 
 -- ---- moves of an advance
 

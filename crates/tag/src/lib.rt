@@ -19,8 +19,9 @@ ghost use Rattle.rules.specs.Effects.{apply, refusalStores, registerStores, reg
 ghost use Rattle.units.specs.Decoded.{opened};
 ghost use Rattle.rules.specs.Command.{refusal, after, reply, filled};
 ghost use Rattle.rules.specs.Command as command;
-ghost use Rattle.tag.specs.Contract.{E, CarriedOut};
-ghost use Rattle.tag.specs.Verdict.{rights, answerOf, verdictOf, Judged, actOf, actIn, actAt, storesBy, Fits, pinChecks, guardChecks, Taken, MoveJudged};
+ghost use Rattle.registers.specs.Registers.{E};
+ghost use Rattle.tag.specs.Contract.{CarriedOut};
+ghost use Rattle.tag.specs.Verdict.{rights, answerOf, verdictOf, Judged, actOf, actIn, actAt, storesBy, Fits, MoveJudged};
 use layout::Found;
 use rules::Answer;
 use rules::Model;
@@ -47,7 +48,7 @@ pub struct Outcome {
 }
 
 // What a write comes to.
-pub enum Verdict {
+enum Verdict {
     // The data goes to the address.
     Store,
     // It is XORed into what is there.
@@ -62,7 +63,7 @@ pub enum Verdict {
 }
 
 // What an advance comes to: the unit leaves this stage.
-pub enum Move {
+enum Move {
     Advance(Stage),
     Refuse(Refusal),
 }
@@ -291,98 +292,6 @@ fn judge_edit(unit: &[u8], edit: usize, offset: usize, data: &[u8]) -> Answer
     }
 }
 
-// ---- judges of registers
-
-// The counter, enciphered by the key at an address.
-fn response(tag: &[u8], key: usize) -> [u8; 16]
-    requires { ⌜ (16 ≤ length (now tag)) × (key + 16 ≤ length (now tag)) ⌝ }
-    ensures { λ r. ⌜ r ≡ response E (part key 16 (now (tag .entry))) (now (tag .entry)) ⌝ }
-{
-    let end = key + 16;
-    let mut block = [0u8; 16];
-    octets::store_at(&mut block, 8, &tag[4..12]);
-    xxtea::encipher_block(octets::sixteen(&tag[key..end]), block)
-}
-
-// What READ, WRITE, EDIT and NAME ask of the PIN index, and of the flag.
-fn judge_flag(tag: &[u8], pin: usize) -> Answer
-    requires { ⌜ 16 ≤ length (now tag) ⌝ }
-    ensures { λ r. ⌜ refusalOf r ≡ lowest (9 when not (leb pin 255) else 10 when eqb (flag (now (tag .entry))) 1 else granted) ⌝ }
-{
-    if 255 < pin {
-        return Answer::Refused(Refusal::BadRegister);
-    }
-    if tag[FLAG] == 1 {
-        return Answer::Refused(Refusal::FlagUsed);
-    }
-    Answer::Done
-}
-
-// READ, WRITE and EDIT: the 16 bytes must be the counter enciphered by the PIN that PA names.
-fn judge_response(tag: &[u8], pin: usize, data: &[u8]) -> Answer
-    requires { ⌜ 8192 ≤ length (now tag) ⌝ }
-    ensures { λ r. ⌜ refusalOf r ≡ lowest (pinChecks (now (tag .entry)) pin (now («data» .entry))) ⌝ }
-{
-    let held = judge_flag(tag, pin);
-    if let Answer::Refused(r) = held {
-        return Answer::Refused(r);
-    }
-    let wanted = response(tag, PINS + 16 * pin);
-    if octets::equal(data, &wanted) {
-        Answer::Done
-    } else {
-        Answer::Refused(Refusal::WrongResponse)
-    }
-}
-
-// Whether the guard is that of the 16 bytes by an owner PIN.
-fn guard_fits(tag: &[u8], owner: usize, guard: &[u8], data: &[u8]) -> bool
-    requires { ⌜ (8192 ≤ length (now tag)) × (owner ≤ 3) × (length (now «data») ≡ 16) ⌝ }
-    ensures { λ r. ⌜ r ≡ same (now (guard .entry)) (part 4 12 (E (states.owner (now (tag .entry)) owner) (now («data» .entry)))) ⌝ }
-{
-    let start = OWNERS + 16 * owner;
-    let end = start + 16;
-    let key = octets::sixteen(&tag[start..end]);
-    let enciphered = xxtea::encipher_block(key, octets::sixteen(data));
-    octets::equal(guard, &enciphered[4..16])
-}
-
-fn judge_commit(tag: &[u8], pa: [u8; 16], data: &[u8]) -> Answer
-    requires { ⌜ (8192 ≤ length (now tag)) × (length (now «data») ≡ 16) ⌝ }
-    ensures { λ r. ⌜ refusalOf r ≡ lowest (guardChecks (now (tag .entry)) pa (now («data» .entry))) ⌝ }
-{
-    let pin = octets::number16(&pa, 0);
-    let owner = octets::number16(&pa, 2);
-    if (255 < pin) | (pin == 0) | (3 < owner) {
-        return Answer::Refused(Refusal::BadRegister);
-    }
-    if tag[FLAG] == 1 {
-        return Answer::Refused(Refusal::FlagUsed);
-    }
-    if guard_fits(tag, owner, &pa[4..16], data) {
-        Answer::Done
-    } else {
-        Answer::Refused(Refusal::WrongResponse)
-    }
-}
-
-fn judge_register(tag: &[u8], session: Session, register: Register, data: &[u8]) -> Answer
-    requires { ⌜ 8192 ≤ length (now tag) ⌝ }
-    ensures { λ r. ⌜ refusalOf r ≡ lowest (registerChecks E (state (now (tag .entry)) session) register (now («data» .entry))) ⌝ }
-{
-    if data.len() != 16 {
-        return Answer::Refused(Refusal::BadRegister);
-    }
-    let pa = session.pa;
-    let pin = octets::number16(&pa, 0);
-    match register {
-        Register::Read | Register::Write | Register::Edit => judge_response(tag, pin, data),
-        Register::Name => judge_flag(tag, pin),
-        Register::Commit => judge_commit(tag, pa, data),
-        Register::Id | Register::Pa => Answer::Done,
-    }
-}
-
 // ---- the verdict on a write
 
 fn verdict_of(answer: Answer, act: Verdict) -> Verdict
@@ -430,7 +339,7 @@ fn judge_write_in(tag: &[u8], session: Session, place: Place, at: usize, data: &
     match place {
         Place::Header => verdict_of(judge_header(tag, at, data), Verdict::NextCount),
         Place::RegisterOf(register) => {
-            let answer = judge_register(tag, session, register, data);
+            let answer = registers::judge(tag, session, register, data);
             verdict_of(answer, Verdict::Take(register))
         }
         Place::UnitOf(k) => verdict_of(
@@ -505,66 +414,6 @@ fn carry_out(tag: &mut [u8], at: usize, data: &[u8], verdict: Verdict)
     }
 }
 
-// The data XOR the counter enciphered by the key at an address.
-fn masked(tag: &[u8], key: usize, data: &[u8]) -> [u8; 16]
-    requires { ⌜ (16 ≤ length (now tag)) × (key + 16 ≤ length (now tag)) × (length (now «data») ≡ 16) ⌝ }
-    ensures { λ r. ⌜ r ≡ xor (now («data» .entry)) (response E (part key 16 (now (tag .entry))) (now (tag .entry))) ⌝ }
-{
-    let mask = response(tag, key);
-    let mut bytes = octets::sixteen(data);
-    octets::xor_into(&mut bytes, &mask);
-    bytes
-}
-
-// COMMIT: a new PIN.
-fn commit(tag: &mut [u8], pin: usize, owner: usize, data: &[u8])
-    requires { ⌜ (8192 ≤ length (now tag)) × (pin ≤ 255) × (owner ≤ 3) × (length (now «data») ≡ 16) ⌝ }
-    ensures { λ _. ⌜ now (tag .exit) ≡ put (pinAt pin) (xor (now («data» .entry)) (response E (states.owner (now (tag .entry)) owner) (now (tag .entry)))) (put 12 (1 ∷ []) (now (tag .entry))) ⌝ }
-{
-    let new = masked(tag, OWNERS + 16 * owner, data);
-    tag[FLAG] = 1;
-    octets::store_at(tag, PINS + 16 * pin, &new);
-}
-
-// A granted write of a register.
-fn take_register(tag: &mut [u8], session: Session, register: Register, data: &[u8]) -> Session
-    requires { ⌜ Taken (now tag) session register (now «data») ⌝ }
-    ensures { λ r. ⌜ state (now (tag .exit)) r ≡ state (apply (registerStores E (state (now (tag .entry)) session) register (now («data» .entry))) (now (tag .entry))) (registerSession E (state (now (tag .entry)) session) register (now («data» .entry))) ⌝ }
-{
-    let pa = session.pa;
-    let pin = octets::number16(&pa, 0);
-    let mut next = session;
-    match register {
-        Register::Read => {
-            tag[FLAG] = 1;
-            next.read = pin;
-        }
-        Register::Write => {
-            tag[FLAG] = 1;
-            next.write = pin;
-        }
-        Register::Edit => {
-            tag[FLAG] = 1;
-            next.edit = pin;
-        }
-        Register::Name => {
-            let name = masked(tag, PINS + 16 * pin, data);
-            tag[FLAG] = 1;
-            next.name = name;
-        }
-        Register::Id => {
-            let id = octets::sixteen(data);
-            next.id = id;
-        }
-        Register::Commit => commit(tag, pin, octets::number16(&pa, 2), data),
-        Register::Pa => {
-            let new = octets::sixteen(data);
-            next.pa = new;
-        }
-    }
-    next
-}
-
 // ---- the commands
 
 fn write_sound(tag: &mut [u8], session: Session, at: usize, data: &[u8]) -> Outcome
@@ -573,7 +422,7 @@ fn write_sound(tag: &mut [u8], session: Session, at: usize, data: &[u8]) -> Outc
 {
     let verdict = judge_write(tag, session, at, data);
     if let Verdict::Take(register) = verdict {
-        let next = take_register(tag, session, register, data);
+        let next = registers::take(tag, session, register, data);
         return Outcome {
             answer: Answer::Done,
             session: next,

@@ -2,10 +2,10 @@
 use mathlib.Core.Path.{_≡_, ap, sym, subst, _∙_}
 use mathlib.Core.List.{[], _∷_}
 use native.Mathlib.Omega.{arith}
+use Rattle.octets.proofs.Laws.{set-put}
 use Rattle.rules.specs.Bytes.{put}
 use Rattle.rules.specs.Effects.{apply}
 use Rattle.tag.specs.Verdict.{Fits, storesBy}
-use Rattle.tag.proofs.Laws.{set-put}
 use borrow.Author.Needs.{needs}
 use Rattle.tag.proofs.carry_out.Statement.{statement}
 use Rattle.tag.proofs.carry_out.Tie as tie

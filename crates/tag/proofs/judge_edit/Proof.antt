@@ -5,12 +5,12 @@ use mathlib.Core.Bool.{false, not}
 use mathlib.Core.List.{List}
 use lib.Dec.{eqb}
 use borrow.Author.Tests.{eq-eqb, ne-eqb}
+use Rattle.rules.proofs.Tests.{gives, leaves, none-applies}
 use Rattle.rules.specs.declared.Unit.{Unit}
 use Rattle.rules.specs.Refusals.{lowest, _when_else_, granted, editAllowed, editChecks}
 use Rattle.units.specs.declared.Decoded.the-variants.{Unit as Whole}
 use Rattle.units.specs.Decoded.{decoded}
 use Rattle.units.proofs.Laws.{decoded-whole, decoded-malformed}
-use Rattle.tag.proofs.Laws.{gives, leaves, nothing}
 use borrow.Author.Needs.{needs}
 use Rattle.tag.proofs.judge_edit.Statement.{statement}
 use Rattle.tag.proofs.judge_edit.Tie as tie
@@ -69,7 +69,7 @@ returns-4 c =
     let unit = test .before .before .before .before in
     let whole = sym (unit .before .before .decode .ensures) ∙ unit .u .given .1 in
     sym (result-decides _ _ _ _ whole (test .before .before .if1 .left) (test .if2 .left)
-    ∙ leaves 13 _ _ (ap not (sym (c .before .edit-fits .ensures) ∙ c .if3 .taken)) ∙ nothing)
+    ∙ leaves 13 _ _ (ap not (sym (c .before .edit-fits .ensures) ∙ c .if3 .taken)) ∙ none-applies)
 
 returns-5 : tie.Need-returns-5
 returns-5 c =

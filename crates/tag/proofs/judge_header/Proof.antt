@@ -4,11 +4,10 @@ use mathlib.Core.Bool.{not}
 use native.Mathlib.Omega.{arith}
 use lib.Dec.{eqb}
 use borrow.Author.Tests.{eqb-true, not-false}
-use Rattle.rules.proofs.Tests.{and-true}
+use Rattle.rules.proofs.Tests.{and-true, gives, leaves, none-applies}
 use Rattle.octets.proofs.Laws.{length-lent}
 use Rattle.rules.specs.Bytes.{part}
 use Rattle.rules.specs.Refusals.{headerWriteChecks}
-use Rattle.tag.proofs.Laws.{gives, leaves, nothing}
 use borrow.Author.Needs.{needs}
 use Rattle.tag.proofs.judge_header.Statement.{statement}
 use Rattle.tag.proofs.judge_header.Tie as tie
@@ -44,7 +43,7 @@ unfolding headerWriteChecks part
 returns-3 c =
     sym (leaves 4 _ _ (c .before .before .before .if1 .left)
     ∙ leaves 12 _ _ (ap not (sym (c .before .is-next .ensures)) ∙ c .if2 .left)
-    ∙ nothing)
+    ∙ none-applies)
 
 pub judge-header-spec : {M : Type 1} → statement M
 judge-header-spec =

@@ -1,19 +1,20 @@
 -- `tag::judge_model` meets its contract: model by model. Assumes nothing.
 use mathlib.Core.Path.{_≡_, refl, sym, ap, _∙_}
 use mathlib.Core.Bool.{false, not}
+use Rattle.rules.proofs.Tests.{gives, leaves, none-applies}
 use Rattle.rules.specs.declared.Refusal.the-variants.{NotNext}
 use Rattle.rules.specs.declared.Answer.the-variants.{Done}
 use Rattle.rules.specs.Refusals.{_when_else_, granted, slotRefuses}
 use Rattle.tag.specs.declared.Verdict.{Verdict}
 use Rattle.tag.specs.Verdict.{Judged, answerOf, actOf}
-use Rattle.tag.proofs.Laws.{gives, leaves, nothing, refuses, acts}
+use Rattle.tag.proofs.Laws.{refuses, acts}
 use borrow.Author.Needs.{needs}
 use Rattle.tag.proofs.judge_model.Statement.{statement}
 use Rattle.tag.proofs.judge_model.Tie as tie
 
 -- no model but that of counters refuses
 stores : (act : Verdict) → answerOf act ≡ Done → Judged (12 when false else granted) act act
-stores act d = acts _ act d (leaves 12 false granted refl ∙ nothing)
+stores act d = acts _ act d (leaves 12 false granted refl ∙ none-applies)
 
 enum-told : tie.Need-enum-told
 enum-told c = search needs
@@ -51,7 +52,7 @@ returns-3 : tie.Need-returns-3
 unfolding slotRefuses actOf
 returns-3 c =
     rw (c .before .before .enum-told3 .given .1)
-    (acts _ _ refl (leaves 12 _ _ (ap not (sym (c .before .slot-fits .ensures) ∙ c .if1 .taken)) ∙ nothing))
+    (acts _ _ refl (leaves 12 _ _ (ap not (sym (c .before .slot-fits .ensures) ∙ c .if1 .taken)) ∙ none-applies))
 
 returns-4 : tie.Need-returns-4
 unfolding slotRefuses actOf

@@ -1,6 +1,6 @@
 -- `tag::judge_rights` meets its contract: test by test. Assumes nothing.
 use mathlib.Core.Path.{sym, _∙_}
-use Rattle.tag.proofs.Laws.{gives, leaves, nothing}
+use Rattle.rules.proofs.Tests.{gives, leaves, none-applies}
 use Rattle.tag.proofs.judge_rights.Statement.{statement}
 use Rattle.tag.proofs.judge_rights.Tie as tie
 
@@ -18,7 +18,7 @@ returns-3 c =
 returns-4 : tie.Need-returns-4
 returns-4 c =
     sym (leaves 6 _ _ (c .before .before .if1 .left) ∙ leaves 7 _ _ (c .before .if2 .left)
-    ∙ leaves 8 _ _ (c .if3 .left) ∙ nothing)
+    ∙ leaves 8 _ _ (c .if3 .left) ∙ none-applies)
 
 pub judge-rights-spec : {M : Type 1} → statement M
 judge-rights-spec = tie.close (tie.spec returns returns-2 returns-3 returns-4)

@@ -4,6 +4,7 @@ use mathlib.Core.Path.{_≡_, sym, ap, _∙_}
 use mathlib.Core.Bool.{Bool, _&&_, not}
 use mathlib.Core.List.{List}
 use lib.Dec.{eqb}
+use Rattle.rules.proofs.Tests.{gives, leaves}
 use Rattle.rules.specs.declared.Refusal.the-variants.{Malformed}
 use Rattle.rules.specs.declared.Unit.{Unit}
 use Rattle.rules.specs.Bytes.{part, same}
@@ -13,7 +14,7 @@ use Rattle.rules.specs.Refusals.{lowest, _when_else_, granted, slotRefuses, seg
 use Rattle.units.specs.declared.Decoded.the-variants.{Unit as Whole}
 use Rattle.units.specs.Decoded.{decoded}
 use Rattle.units.proofs.Laws.{decoded-whole, decoded-malformed}
-use Rattle.tag.proofs.Laws.{gives, leaves, refuses, rights-refuse, rights-held}
+use Rattle.tag.proofs.Laws.{refuses, rights-refuse, rights-held}
 use Rattle.tag.proofs.WriteLaws.{judged-as}
 use borrow.Author.Needs.{needs}
 use Rattle.tag.proofs.judge_segment_write.Statement.{statement}

@@ -1,11 +1,11 @@
 -- `tag::judge_stage` meets its contract: stage by stage. Assumes nothing.
 use mathlib.Core.Path.{ap, _∙_}
 use mathlib.Core.Bool.{not}
+use Rattle.rules.proofs.Tests.{gives, leaves, none-applies}
 use Rattle.rules.specs.declared.Model.the-variants.{Receiver}
 use Rattle.rules.specs.declared.Refusal.the-variants.{NoAdvance}
 use Rattle.rules.specs.Refusals.{canAdvance}
 use Rattle.units.proofs.Laws.{no-receiver}
-use Rattle.tag.proofs.Laws.{gives, leaves, nothing}
 use Rattle.tag.proofs.ReadLaws.{move-refuses, moves, no-advance}
 use borrow.Author.Needs.{needs}
 use Rattle.tag.proofs.judge_stage.Statement.{statement}
@@ -30,13 +30,13 @@ returns-2 : tie.Need-returns-2
 unfolding canAdvance
 returns-2 c =
     let stage = c .before .before .before .model .given .1 ∙ ap Receiver (c .enum-told .given .1) in
-    moves _ _ _ (leaves 14 _ _ (ap (λ m. not (canAdvance m)) stage) ∙ nothing) stage
+    moves _ _ _ (leaves 14 _ _ (ap (λ m. not (canAdvance m)) stage) ∙ none-applies) stage
 
 returns-3 : tie.Need-returns-3
 unfolding canAdvance
 returns-3 c =
     let stage = c .before .before .before .model .given .1 ∙ ap Receiver (c .enum-told2 .given .1) in
-    moves _ _ _ (leaves 14 _ _ (ap (λ m. not (canAdvance m)) stage) ∙ nothing) stage
+    moves _ _ _ (leaves 14 _ _ (ap (λ m. not (canAdvance m)) stage) ∙ none-applies) stage
 
 returns-4 : tie.Need-returns-4
 unfolding canAdvance

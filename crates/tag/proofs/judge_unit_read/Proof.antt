@@ -1,7 +1,7 @@
 -- `tag::judge_unit_read` meets its contract: test by test. Assumes nothing.
 use mathlib.Core.Path.{sym, _∙_}
+use Rattle.rules.proofs.Tests.{gives, leaves, none-applies}
 use Rattle.rules.specs.Refusals.{unitReadChecks}
-use Rattle.tag.proofs.Laws.{gives, leaves, nothing}
 use Rattle.tag.proofs.ReadLaws.{formless, unit-read-by}
 use borrow.Author.Needs.{needs}
 use Rattle.tag.proofs.judge_unit_read.Statement.{statement}
@@ -29,7 +29,7 @@ returns-3 : tie.Need-returns-3
 returns-3 c =
     let at = c .before .before .before in
     sym (unit-read-by _ _ _ (sym (at .before .before .decode .ensures) ∙ at .u .given .1)
-    ∙ leaves 6 _ _ (c .if1 .left) ∙ nothing)
+    ∙ leaves 6 _ _ (c .if1 .left) ∙ none-applies)
 
 pub judge-unit-read-spec : {M : Type 1} → statement M
 judge-unit-read-spec =

@@ -14,9 +14,9 @@ use Rattle.rules.specs.Map.{sound, placeOf}
 use Rattle.rules.specs.State.{Cipher, State}
 use Rattle.rules.specs.Refusals.{Checks, lowest, _when_else_, writeChecks}
 use Rattle.rules.specs.Command.{inPlace, checks, write}
-use Rattle.rules.proofs.Tests.{or-false}
+use Rattle.rules.proofs.Tests.{or-false, gives, leaves}
 use Rattle.layout.specs.Found.{found}
-use Rattle.tag.proofs.Laws.{gives, leaves, refuses}
+use Rattle.tag.proofs.Laws.{refuses}
 use Rattle.tag.proofs.WriteLaws.{judged-as}
 use borrow.Author.Needs.{needs}
 use Rattle.tag.proofs.judge_write.Statement.{statement}

@@ -6,6 +6,7 @@ use mathlib.Core.Option.{some}
 use native.Mathlib.Omega.{arith}
 use types.Run.{OneOf, miss}
 use denote.Enum.Declared.{tagOf}
+use Rattle.rules.proofs.Tests.{gives, none-applies}
 use Rattle.rules.specs.declared.Refusal.the-variants.{NeverTaken}
 use Rattle.rules.specs.declared.Place.{Place}
 use Rattle.rules.specs.declared.Place.the-variants.{Header, Hidden, RegisterOf, Pins, Readers, UnitOf, Spare, Segment, Public}
@@ -14,7 +15,7 @@ use Rattle.rules.specs.Refusals.{lowest, never, writeChecks}
 use Rattle.rules.proofs.Place as the-place
 use Rattle.rules.proofs.MapLaws.{sizes}
 use Rattle.tag.specs.Verdict.{actIn}
-use Rattle.tag.proofs.Laws.{gives, nothing, refuses, acts, judged}
+use Rattle.tag.proofs.Laws.{refuses, acts, judged}
 use Rattle.tag.proofs.WriteLaws.{judged-as, unit-inside, segment-inside, checks-at}
 use borrow.Author.Needs.{needs}
 use Rattle.tag.proofs.judge_write_in.Statement.{statement}
@@ -46,8 +47,8 @@ verdict-of-requires c κs = search needs
 enum-known-place : tie.Need-enum-known-place
 enum-known-place c = search needs
 
-judge-register-requires : tie.Need-judge-register-requires
-judge-register-requires c κs = omega (arith, sizes _ (c .before .before .before .before .before .pre .0) .smallest)
+judge-requires : tie.Need-judge-requires
+judge-requires c κs = omega (arith, sizes _ (c .before .before .before .before .before .pre .0) .smallest)
 
 verdict-of-requires-2 : tie.Need-verdict-of-requires-2
 verdict-of-requires-2 c κs = search needs
@@ -85,7 +86,7 @@ returns-2 : tie.Need-returns-2
 unfolding writeChecks actIn
 returns-2 c =
     rw (c .before .before .before .place .given .1, c .verdict-of2 .ensures)
-    (judged _ _ (c .before .judge-register .result) refl (c .before .judge-register .ensures))
+    (judged _ _ (c .before .judge .result) refl (c .before .judge .ensures))
 
 returns-3 : tie.Need-returns-3
 unfolding writeChecks actIn
@@ -104,7 +105,7 @@ returns-4 c =
 
 returns-5 : tie.Need-returns-5
 unfolding writeChecks actIn
-returns-5 c = rw (c .enum-told2 .given .1) (acts _ _ refl nothing)
+returns-5 c = rw (c .enum-told2 .given .1) (acts _ _ refl none-applies)
 
 returns-6 : tie.Need-returns-6
 returns-6 c =
@@ -118,7 +119,7 @@ judge-write-in-spec =
     judge-header-requires
     verdict-of-requires
     enum-known-place
-    judge-register-requires
+    judge-requires
     verdict-of-requires-2
     enum-known-place-2
     judge-edit-at-requires

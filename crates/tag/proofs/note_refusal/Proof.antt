@@ -1,8 +1,8 @@
 -- `tag::note_refusal` meets its contract. Assumes nothing.
 use mathlib.Core.Path.{_≡_, ap, sym, _∙_}
+use Rattle.octets.proofs.Laws.{set-put}
 use Rattle.rules.specs.Answers.{numberOf}
 use Rattle.rules.specs.Effects.{apply, refusalStores}
-use Rattle.tag.proofs.Laws.{set-put}
 use Rattle.tag.proofs.ActLaws.{quiet}
 use borrow.Author.Needs.{needs}
 use Rattle.tag.proofs.note_refusal.Statement.{statement}

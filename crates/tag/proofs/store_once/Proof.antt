@@ -1,8 +1,8 @@
 -- `tag::store_once` meets its contract. Assumes nothing.
 use mathlib.Core.Path.{_≡_, ap₂, _∙_}
 use mathlib.Core.List.{[], _∷_}
+use Rattle.octets.proofs.Laws.{set-put}
 use Rattle.rules.specs.Bytes.{put}
-use Rattle.tag.proofs.Laws.{set-put}
 use borrow.Author.Needs.{needs}
 use Rattle.tag.proofs.store_once.Statement.{statement}
 use Rattle.tag.proofs.store_once.Tie as tie

@@ -8,7 +8,7 @@ use Rattle.rules.specs.Answers.{refusalOf}
 use Rattle.rules.specs.Effects.{apply}
 use Rattle.rules.specs.Command.{write, refusal, checks}
 use Rattle.rules.proofs.MapLaws.{sound-long}
-use Rattle.tag.specs.Contract.{E}
+use Rattle.registers.specs.Registers.{E}
 use Rattle.tag.specs.Verdict.{Judged, answerOf, actAt}
 use Rattle.tag.proofs.ActLaws.{Bytes, madeBy, sessionBy, not-taken, left, fit, taken}
 use borrow.Author.Needs.{needs}
@@ -21,8 +21,8 @@ judge-write-requires c κs = search needs
 enum-known-verdict : tie.Need-enum-known-verdict
 enum-known-verdict c = search needs
 
-take-register-requires : tie.Need-take-register-requires
-take-register-requires c κs =
+take-requires : tie.Need-take-requires
+take-requires c κs =
     let a = c .before .before .before .before .before .before .before .before .args in
     let s = state (a .tag .now) (a .session) in
     let bs = a .«data» .now in
@@ -46,7 +46,7 @@ returns c =
     let act = actAt (s .tag) (placeOf (s .tag) (a .at) (length bs)) in
     let k = subst (Judged (checks E s (write (a .at) bs)) act) (c .before .before .before .before .before .verdict .given .1) j in
     let b : Bytes (a .tag .now) = λ i. c .before .before .before .before .before .before .before .before .before .before .slice-known .given i .fits in
-    record { answered = k .number; left = c .before .before .take-register .ensures ∙ left s (a .at) bs _ w b k }
+    record { answered = k .number; left = c .before .before .take .ensures ∙ left s (a .at) bs _ w b k }
 
 carry-out-requires : tie.Need-carry-out-requires
 carry-out-requires c κs =
@@ -86,7 +86,7 @@ write-sound-spec =
     (tie.spec
     judge-write-requires
     enum-known-verdict
-    take-register-requires
+    take-requires
     same-length
     returns
     carry-out-requires

@@ -1,13 +1,13 @@
--- `tag::guard_fits` meets its contract. Assumes nothing.
+-- `registers::guard_fits` meets its contract. Assumes nothing.
 use Prim.Native.Nat.{_+_, _*_}
 use mathlib.Core.Path.{_∙_}
 use native.Mathlib.Omega.{arith}
 use Rattle.rules.specs.State.{owner}
 use Rattle.octets.proofs.Laws.{part-lent}
-use Rattle.tag.proofs.RegisterLaws.{block-whole, block-lent}
+use Rattle.registers.proofs.Laws.{block-whole, block-lent}
 use borrow.Author.Needs.{needs}
-use Rattle.tag.proofs.guard_fits.Statement.{statement}
-use Rattle.tag.proofs.guard_fits.Tie as tie
+use Rattle.registers.proofs.guard_fits.Statement.{statement}
+use Rattle.registers.proofs.guard_fits.Tie as tie
 
 mul-start : tie.Need-mul-start
 mul-start c = search needs

@@ -1,13 +1,13 @@
--- `tag::take_register` meets its contract: register by register. Assumes nothing.
+-- `registers::take` meets its contract: register by register. Assumes nothing.
 use Prim.Native.Nat.{_≤_}
 use mathlib.Core.Logic.{inl, inr}
 use native.Mathlib.Omega.{arith}
 use lib.ListN.{length-map}
 use Rattle.rules.specs.State.{ownerIndex, withRead, withWrite, withEdit, withName, withId, withPa}
-use Rattle.tag.proofs.RegisterLaws.{pin-taken, takes-read, takes-write, takes-edit, takes-name, takes-id, takes-commit, takes-pa}
+use Rattle.registers.proofs.Laws.{pin-taken, takes-read, takes-write, takes-edit, takes-name, takes-id, takes-commit, takes-pa}
 use borrow.Author.Needs.{needs}
-use Rattle.tag.proofs.take_register.Statement.{statement}
-use Rattle.tag.proofs.take_register.Tie as tie
+use Rattle.registers.proofs.take.Statement.{statement}
+use Rattle.registers.proofs.take.Tie as tie
 
 slice-aggregate-number16 : tie.Need-slice-aggregate-number16
 slice-aggregate-number16 c = search needs
@@ -173,8 +173,8 @@ returns-7 c =
     takes-pa (start .args .tag .now) (start .args .session) _ (start .args .«data» .now) _ (start .pre .whole)
     (c .sixteen2 .ensures) (c .before .enum-told7 .given .1)
 
-pub take-register-spec : {M : Type 1} → statement M
-take-register-spec =
+pub take-spec : {M : Type 1} → statement M
+take-spec =
     tie.close
     (tie.spec
     slice-aggregate-number16

@@ -1,12 +1,12 @@
--- `tag::judge_register` meets its contract: register by register. Assumes nothing.
+-- `registers::judge` meets its contract: register by register. Assumes nothing.
 use mathlib.Core.Path.{sym, _∙_}
 use native.Mathlib.Omega.{arith}
 use lib.ListN.{length-map}
 use Rattle.rules.specs.State.{pinIndex}
-use Rattle.tag.proofs.RegisterLaws.{other-size, checks-response, checks-name, checks-commit, checks-plain}
+use Rattle.registers.proofs.Laws.{other-size, checks-response, checks-name, checks-commit, checks-plain}
 use borrow.Author.Needs.{needs}
-use Rattle.tag.proofs.judge_register.Statement.{statement}
-use Rattle.tag.proofs.judge_register.Tie as tie
+use Rattle.registers.proofs.judge.Statement.{statement}
+use Rattle.registers.proofs.judge.Tie as tie
 
 returns : tie.Need-returns
 returns c = sym (other-size _ _ _ (c .if1 .taken) _)
@@ -62,8 +62,8 @@ returns-5 c =
     let sized = c .before .before .before .before in
     sym (checks-plain _ _ _ (sized .if1 .left) _ (c .match .keys4))
 
-pub judge-register-spec : {M : Type 1} → statement M
-judge-register-spec =
+pub judge-spec : {M : Type 1} → statement M
+judge-spec =
     tie.close
     (tie.spec
     returns

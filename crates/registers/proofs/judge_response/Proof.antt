@@ -1,15 +1,15 @@
--- `tag::judge_response` meets its contract: test by test. Assumes nothing.
+-- `registers::judge_response` meets its contract: test by test. Assumes nothing.
 use mathlib.Core.Path.{sym, ap, _∙_}
 use mathlib.Core.Bool.{not}
 use native.Mathlib.Omega.{arith}
+use Rattle.rules.proofs.Tests.{gives, leaves, none-applies}
 use Rattle.rules.specs.Bytes.{same}
 use Rattle.rules.specs.State.{pin}
 use Rattle.rules.specs.Answers.{refusalOf}
-use Rattle.tag.proofs.Laws.{gives, leaves, nothing}
-use Rattle.tag.proofs.RegisterLaws.{index-within, two-refuse, two-held}
+use Rattle.registers.proofs.Laws.{index-within, two-refuse, two-held}
 use borrow.Author.Needs.{needs}
-use Rattle.tag.proofs.judge_response.Statement.{statement}
-use Rattle.tag.proofs.judge_response.Tie as tie
+use Rattle.registers.proofs.judge_response.Statement.{statement}
+use Rattle.registers.proofs.judge_response.Tie as tie
 
 judge-flag-requires : tie.Need-judge-flag-requires
 judge-flag-requires c κs = search needs
@@ -56,7 +56,7 @@ returns-2 c =
     let told = at .before in
     let held = sym (told .before .before .judge-flag .ensures) ∙ ap refusalOf (told .enum-told .given .1) in
     let equal = sym (ap (same _) (at .response .ensures)) ∙ sym (c .before .equal .ensures) ∙ c .if1 .taken in
-    sym (two-held 9 10 _ _ _ held ∙ leaves 11 _ _ (ap not equal) ∙ nothing)
+    sym (two-held 9 10 _ _ _ held ∙ leaves 11 _ _ (ap not equal) ∙ none-applies)
 
 returns-3 : tie.Need-returns-3
 unfolding pin

@@ -1,13 +1,13 @@
--- `tag::commit` meets its contract. Assumes nothing.
+-- `registers::commit` meets its contract. Assumes nothing.
 use mathlib.Core.Path.{ap, _∙_}
 use native.Mathlib.Omega.{arith}
 use lib.ListN.{length, length-set}
+use Rattle.octets.proofs.Laws.{set-put}
 use Rattle.rules.specs.State.{owner}
 use Rattle.rules.proofs.BytesLaws.{length-xor}
-use Rattle.tag.proofs.Laws.{set-put}
 use borrow.Author.Needs.{needs}
-use Rattle.tag.proofs.commit.Statement.{statement}
-use Rattle.tag.proofs.commit.Tie as tie
+use Rattle.registers.proofs.commit.Statement.{statement}
+use Rattle.registers.proofs.commit.Tie as tie
 
 mul-masked : tie.Need-mul-masked
 mul-masked c = search needs

@@ -1,9 +1,9 @@
--- `tag::masked` meets its contract. Assumes nothing.
+-- `registers::masked` meets its contract. Assumes nothing.
 use mathlib.Core.Path.{_∙_}
-use Rattle.tag.proofs.RegisterLaws.{block-whole}
+use Rattle.registers.proofs.Laws.{block-whole}
 use borrow.Author.Needs.{needs}
-use Rattle.tag.proofs.masked.Statement.{statement}
-use Rattle.tag.proofs.masked.Tie as tie
+use Rattle.registers.proofs.masked.Statement.{statement}
+use Rattle.registers.proofs.masked.Tie as tie
 
 response-requires : tie.Need-response-requires
 response-requires c κs = search needs

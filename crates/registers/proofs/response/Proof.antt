@@ -1,11 +1,11 @@
--- `tag::response` meets its contract. Assumes nothing.
+-- `registers::response` meets its contract. Assumes nothing.
 use mathlib.Core.Path.{_∙_}
 use native.Mathlib.Omega.{arith}
 use Rattle.rules.specs.State.{response, encipheredCounter}
-use Rattle.tag.proofs.RegisterLaws.{block-lent, counter-lent}
+use Rattle.registers.proofs.Laws.{block-lent, counter-lent}
 use borrow.Author.Needs.{needs}
-use Rattle.tag.proofs.response.Statement.{statement}
-use Rattle.tag.proofs.response.Tie as tie
+use Rattle.registers.proofs.response.Statement.{statement}
+use Rattle.registers.proofs.response.Tie as tie
 
 add-end : tie.Need-add-end
 add-end c = search needs

@@ -1,14 +1,14 @@
--- `tag::judge_commit` meets its contract: test by test. Assumes nothing.
+-- `registers::judge_commit` meets its contract: test by test. Assumes nothing.
 use mathlib.Core.Path.{sym, ap, _∙_}
 use mathlib.Core.Bool.{not}
 use borrow.Author.Tests.{eq-eqb, ne-eqb}
+use Rattle.rules.proofs.Tests.{gives, leaves, none-applies}
 use Rattle.rules.specs.Map.{flag}
 use Rattle.octets.proofs.Laws.{part-lent}
-use Rattle.tag.proofs.Laws.{gives, leaves, nothing}
-use Rattle.tag.proofs.RegisterLaws.{indexes-refuse, indexes-held, owner-held}
+use Rattle.registers.proofs.Laws.{indexes-refuse, indexes-held, owner-held}
 use borrow.Author.Needs.{needs}
-use Rattle.tag.proofs.judge_commit.Statement.{statement}
-use Rattle.tag.proofs.judge_commit.Tie as tie
+use Rattle.registers.proofs.judge_commit.Statement.{statement}
+use Rattle.registers.proofs.judge_commit.Tie as tie
 
 slice-aggregate-number16 : tie.Need-slice-aggregate-number16
 slice-aggregate-number16 c = search needs
@@ -67,7 +67,7 @@ returns-3 c =
     let fits = rw (part-lent 4 12 (args .t2)) at (c .before .guard-fits .ensures) in
     sym (indexes-held (args .tag .now) (args .t2) (args .«data» .now) _ _
     (read .before .before .number16 .ensures) (read .number162 .ensures) (at .if1 .left)
-    ∙ leaves 10 _ _ (ne-eqb _ _ (unused .if2 .left)) ∙ leaves 11 _ _ (ap not (sym fits ∙ c .if3 .taken)) ∙ nothing)
+    ∙ leaves 10 _ _ (ne-eqb _ _ (unused .if2 .left)) ∙ leaves 11 _ _ (ap not (sym fits ∙ c .if3 .taken)) ∙ none-applies)
 
 returns-4 : tie.Need-returns-4
 unfolding flag

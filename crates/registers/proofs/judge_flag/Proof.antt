@@ -1,12 +1,12 @@
--- `tag::judge_flag` meets its contract: test by test. Assumes nothing.
+-- `registers::judge_flag` meets its contract: test by test. Assumes nothing.
 use mathlib.Core.Path.{sym, _∙_}
 use borrow.Author.Tests.{eq-eqb, ne-eqb}
+use Rattle.rules.proofs.Tests.{gives, leaves, none-applies}
 use Rattle.rules.specs.Map.{flag}
-use Rattle.tag.proofs.Laws.{gives, leaves, nothing}
-use Rattle.tag.proofs.RegisterLaws.{above, within}
+use Rattle.registers.proofs.Laws.{above, within}
 use borrow.Author.Needs.{needs}
-use Rattle.tag.proofs.judge_flag.Statement.{statement}
-use Rattle.tag.proofs.judge_flag.Tie as tie
+use Rattle.registers.proofs.judge_flag.Statement.{statement}
+use Rattle.registers.proofs.judge_flag.Tie as tie
 
 returns : tie.Need-returns
 returns c = sym (gives 9 _ _ (above _ _ (c .if1 .taken)))
@@ -22,7 +22,7 @@ returns-2 c =
 returns-3 : tie.Need-returns-3
 unfolding flag
 returns-3 c =
-    sym (leaves 9 _ _ (within _ _ (c .before .before .if1 .left)) ∙ leaves 10 _ _ (ne-eqb _ _ (c .if2 .left)) ∙ nothing)
+    sym (leaves 9 _ _ (within _ _ (c .before .before .if1 .left)) ∙ leaves 10 _ _ (ne-eqb _ _ (c .if2 .left)) ∙ none-applies)
 
 pub judge-flag-spec : {M : Type 1} → statement M
 judge-flag-spec = tie.close (tie.spec returns shared-slice-read-if2 returns-2 returns-3)

@@ -24,11 +24,9 @@ use Rattle.rules.specs.Map.{flag, pinAt}
 use Rattle.rules.specs.State.{state, pinIndex, ownerIndex, guard, pin, owner, response, withRead, withWrite, withEdit, withName, withId, withPa}
 use Rattle.rules.specs.Refusals.{Checks, _when_else_, granted, lowest, registerChecks, responseChecks, nameChecks, commitChecks, plainChecks}
 use Rattle.rules.specs.Effects.{apply, registerStores, registerSession}
-use Rattle.rules.proofs.Tests.{true-false, some-none, passes, or-false}
-use Rattle.octets.proofs.Laws.{part-lent, length-lent, put-whole}
-use Rattle.tag.specs.Contract.{E}
-use Rattle.tag.specs.Verdict.{pinChecks, guardChecks, Taken}
-use Rattle.tag.proofs.Laws.{gives, leaves, nothing, set-put}
+use Rattle.rules.proofs.Tests.{true-false, some-none, passes, or-false, gives, leaves, none-applies}
+use Rattle.octets.proofs.Laws.{part-lent, length-lent, put-whole, set-put}
+use Rattle.registers.specs.Registers.{E, pinChecks, guardChecks, Taken}
 
 -- ---- blocks
 
@@ -169,9 +167,9 @@ module _ (t : List ℕ) (v : Session) (bs : List ℕ) (h : length bs ≡ 16) whe
   checks-plain Write o = absurd (miss (4 ∷ 6 ∷ []) 1 tt o)
   checks-plain Edit o = absurd (miss (4 ∷ 6 ∷ []) 2 tt o)
   checks-plain Name o = absurd (miss (4 ∷ 6 ∷ []) 3 tt o)
-  checks-plain Id o = right-size _ ∙ nothing
+  checks-plain Id o = right-size _ ∙ none-applies
   checks-plain Commit o = absurd (miss (4 ∷ 6 ∷ []) 5 tt o)
-  checks-plain Pa o = right-size _ ∙ nothing
+  checks-plain Pa o = right-size _ ∙ none-applies
 
 -- ---- what a granted write of a register leaves, by the register, the indexes i and j that PA names and the results of
 -- the calls

@@ -1,0 +1,2 @@
+-- The root of the definitions of `registers`.
+pub mod Registers
