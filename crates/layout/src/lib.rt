@@ -4,7 +4,8 @@ ghost use mathlib.Core.Path.{_≡_};
 ghost use mathlib.Core.Bool.{true};
 ghost use Prim.Native.Nat.{ℕ, _+_, _%_, _≤_, _<_};
 ghost use lib.ListN.{length};
-ghost use Rattle.rules.specs.Map.{segments, publics, most, segmentsAt, sound, rows, registerNo, find, placeOf};
+ghost use Rattle.rules.specs.Map.{segments, publics, most, segmentsAt, sound, unitAt, rows, registerNo, find, placeOf};
+ghost use Rattle.rules.specs.Units.{unitBytes};
 ghost use Rattle.layout.specs.Found.{found, foundIf, countsFit, restFits};
 use rules::Place;
 use rules::Register;
@@ -29,6 +30,16 @@ pub fn publics(tag: &[u8]) -> usize
     ensures { λ r. ⌜ r ≡ publics (now (tag .entry)) ⌝ }
 {
     octets::number16(tag, 2)
+}
+
+// The 32 bytes of unit k.
+pub fn unit_of(tag: &[u8], k: usize) -> &[u8]
+    requires { ⌜ unitAt k + 32 ≤ length (now tag) ⌝ }
+    ensures { λ r. ⌜ now r ≡ unitBytes (now (tag .entry)) k ⌝ }
+{
+    let start = 12288 + 32 * k;
+    let end = start + 32;
+    &tag[start..end]
 }
 
 // Where the segments begin, behind the units of A segments.

@@ -16,7 +16,7 @@ use Rattle.rules.specs.Bytes.{part, put, number, numberFrom, same, zeros, xor}
 
 -- ---- numbers: the first byte of a part is its highest digit
 
-pub number-first : (v at n : ℕ) (t : List ℕ) → at < length t
+number-first : (v at n : ℕ) (t : List ℕ) → at < length t
     → numberFrom v (part at (suc n) t) ≡ numberFrom (v * 256 + getD t at 0) (part (suc at) n t)
 unfolding part numberFrom
 number-first v at n [] h = absurd (omega arith)
@@ -76,7 +76,8 @@ pub same-next : (all : Bool) (i : ℕ) (s t : List ℕ) → length s ≡ length 
     → same s t ≡ ((all && eqb (getD s i 0) (getD t i 0)) && same (drop (i + 1) s) (drop (i + 1) t))
 unfolding same
 same-next all i s t l h e =
-    rw add-one (and-next (same s t) all _ (same (drop i s) (drop i t)) (same (drop (suc i) s) (drop (suc i) t)) e (at i s t l h))
+    rw add-one
+    (and-next (same s t) all _ (same (drop i s) (drop i t)) (same (drop (suc i) s) (drop (suc i) t)) e (at i s t l h))
   where
     at : (i : ℕ) (s t : List ℕ) → length s ≡ length t → i < length s
         → same (drop i s) (drop i t) ≡ (eqb (getD s i 0) (getD t i 0) && same (drop (suc i) s) (drop (suc i) t))

@@ -24,9 +24,10 @@ use Rattle.rules.specs.Map.{flag, pinAt}
 use Rattle.rules.specs.State.{state, pinIndex, ownerIndex, guard, pin, owner, response, withRead, withWrite, withEdit, withName, withId, withPa}
 use Rattle.rules.specs.Refusals.{Checks, _when_else_, granted, lowest, registerChecks, responseChecks, nameChecks, commitChecks, plainChecks}
 use Rattle.rules.specs.Effects.{apply, registerStores, registerSession}
-use Rattle.rules.proofs.Tests.{true-false, some-none, passes, or-false, gives, leaves, none-applies}
+use Rattle.rules.proofs.Tests.{true-false, passes, or-false, gives, leaves, none-applies}
 use Rattle.octets.proofs.Laws.{part-lent, length-lent, put-whole, set-put}
-use Rattle.registers.specs.Registers.{E, pinChecks, guardChecks, Taken}
+use Rattle.xxtea.specs.Block.{E}
+use Rattle.registers.specs.Registers.{pinChecks, guardChecks, Taken}
 
 -- ---- blocks
 
@@ -58,21 +59,6 @@ within a b h = rw (le-leb a b h)
 pub index-within : (n a b : ℕ) (cs : Checks) (r : Answer) → refusalOf r ≡ lowest (n when not (leb a b) else cs)
     → r ≡ Done → a ≤ b
 index-within n a b cs r e d = leb-true a b (not-false _ (passes n _ cs (sym e ∙ ap refusalOf d) .0))
-
--- where the first two tests give an answer, so do the checks that begin with them; else the rest decides
-pub two-refuse : (m n : ℕ) (a b : Bool) (cs : Checks) (k : ℕ) → lowest (m when a else n when b else granted) ≡ some k
-    → lowest (m when a else n when b else cs) ≡ some k
-unfolding lowest
-two-refuse m n true b cs k e = e
-two-refuse m n false true cs k e = e
-two-refuse m n false false cs k e = some-none (sym e)
-
-pub two-held : (m n : ℕ) (a b : Bool) (cs : Checks) → lowest (m when a else n when b else granted) ≡ none
-    → lowest (m when a else n when b else cs) ≡ lowest cs
-unfolding lowest
-two-held m n true b cs e = some-none e
-two-held m n false true cs e = some-none e
-two-held m n false false cs e = refl
 
 -- the indexes of COMMIT, by one test of the three
 past : (a b : ℕ) → ltb b a ≡ not (leb a b)

@@ -1,4 +1,4 @@
--- The cipher that the registers use, and what their functions hand each other. Assumes nothing.
+-- What the functions of `registers` hand each other and their callers. Assumes nothing.
 use Prim.Native.Nat.{ℕ, _≤_}
 use mathlib.Core.Path.{_≡_}
 use mathlib.Core.Logic.{_⊎_}
@@ -6,19 +6,14 @@ use mathlib.Core.Bool.{not}
 use mathlib.Core.List.{List}
 use lib.ListN.{length}
 use lib.Dec.{eqb, leb}
-use Rattle.xxtea.specs.Xxtea.{up}
-use Rattle.xxtea.specs.Block.{blockBy}
+use Rattle.xxtea.specs.Block.{E}
 use Rattle.rules.specs.declared.Session.{Session}
 use Rattle.rules.specs.declared.Register.{Register}
 use Rattle.rules.specs.declared.Register.the-variants.{Name, Commit}
 use Rattle.rules.specs.Bytes.{part, number, same}
 use Rattle.rules.specs.Map.{flag}
-use Rattle.rules.specs.State.{Cipher, pinIndex, ownerIndex, pin, owner, response}
+use Rattle.rules.specs.State.{pinIndex, ownerIndex, pin, owner, response}
 use Rattle.rules.specs.Refusals.{Checks, _when_else_, granted}
-
--- the E of the rules: "XXTEA .. A PIN is the key and a block is 16 bytes"
-abbrev pub E : Cipher
-E = blockBy up
 
 -- the checks of READ, WRITE and EDIT, and of COMMIT, on 16 bytes and the PA array
 abbrev pub pinChecks : List ℕ → ℕ → List ℕ → Checks

@@ -15,17 +15,20 @@ ghost use Rattle.rules.specs.State as states;
 ghost use Rattle.rules.specs.Answers.{refusalOf};
 ghost use Rattle.rules.specs.Refusals.{lowest, granted, _when_else_, registerChecks};
 ghost use Rattle.rules.specs.Effects.{apply, registerStores, registerSession};
-ghost use Rattle.registers.specs.Registers.{E, pinChecks, guardChecks, Taken};
+ghost use Rattle.xxtea.specs.Block.{E};
+ghost use Rattle.registers.specs.Registers.{pinChecks, guardChecks, Taken};
 use rules::Answer;
 use rules::Refusal;
 use rules::Register;
 use rules::Session;
 
-// The flag of the header, and where the owner PINs and the PINs begin.
+// The address of the usage flag.
 const FLAG: usize = 12;
 
+// The address of owner PIN 0.
 const OWNERS: usize = 16;
 
+// The address of PIN 0.
 const PINS: usize = 4096;
 
 // The counter, enciphered by the key at an address.

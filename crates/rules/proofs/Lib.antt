@@ -19,4 +19,5 @@ pub mod LogDemand3
 pub mod FourCommands
 pub mod Examples
 pub mod Moves
+pub mod Calls
 pub mod Theorems

@@ -1,7 +1,7 @@
 -- A refused command changes nothing, except 11, which sets the flag; and the number is the lowest that applies.
 use Prim.Native.Nat.{ℕ, suc, _+_, _≤_, _<_}
 use mathlib.Core.Path.{_≡_, refl, sym, ap, subst, _∙_}
-use mathlib.Core.Logic.{_≢_, inl, inr}
+use mathlib.Core.Logic.{_≢_, _⊎_, inl, inr}
 use mathlib.Core.Bool.{Bool, true, false, _&&_, not, cond}
 use mathlib.Core.List.{List, [], _∷_}
 use mathlib.Core.Option.{Option, none, some}
@@ -15,7 +15,7 @@ use Rattle.rules.specs.declared.Register.the-variants.{Read, Write, Edit
 use Rattle.rules.specs.declared.Place.{Place}
 use Rattle.rules.specs.declared.Place.the-variants.{Header, Hidden, RegisterOf, Pins, Readers, UnitOf, Spare, Segment, Public}
 use Rattle.rules.specs.declared.Refusal.{Refusal}
-use Rattle.rules.specs.declared.Refusal.the-variants.{Unsound, Count, Outside, NeverTaken, Malformed, Forbidden, OtherPin, OtherName, BadRegister, FlagUsed, WrongResponse, NotNext, BadEdit, NoAdvance}
+use Rattle.rules.specs.declared.Refusal.the-variants.{Unsound, Count, Outside, NeverTaken, Malformed, Forbidden, OtherPin, OtherName, BadRegister, FlagUsed, WrongResponse, NotNext, BadEdit, NoAdvance, Unreadable, NoRoom}
 use Rattle.rules.specs.Bytes.{put, byte}
 use Rattle.rules.specs.Map.{placeOf, sound, flag}
 use Rattle.rules.specs.State.{Cipher, State}
@@ -183,6 +183,26 @@ refusal-named E s c n e =
     at-most powerUp h = omega arith
 
 -- ---- the state after a refusal
+
+-- a case of `Refusal` is 11, or it stores nothing
+pub eleven-or-none : (r : Refusal) → (r ≡ WrongResponse) ⊎ (refusalStores (numberOf r) ≡ [])
+unfolding refusalStores
+eleven-or-none Unsound = inr refl
+eleven-or-none Count = inr refl
+eleven-or-none Outside = inr refl
+eleven-or-none NeverTaken = inr refl
+eleven-or-none Malformed = inr refl
+eleven-or-none Forbidden = inr refl
+eleven-or-none OtherPin = inr refl
+eleven-or-none OtherName = inr refl
+eleven-or-none BadRegister = inr refl
+eleven-or-none FlagUsed = inr refl
+eleven-or-none WrongResponse = inl refl
+eleven-or-none NotNext = inr refl
+eleven-or-none BadEdit = inr refl
+eleven-or-none NoAdvance = inr refl
+eleven-or-none Unreadable = inr refl
+eleven-or-none NoRoom = inr refl
 
 -- a refusal other than 11 leaves the state as it was
 pub refused-stays : (E : Cipher) (s : State) (c : Command) (n : ℕ) → refusal E s c ≡ some n → n ≢ 11 → after E s c ≡ s

@@ -70,6 +70,23 @@ pub none-applies : lowest granted ≡ none
 unfolding lowest
 none-applies = refl
 
+-- checks before others: where they give a number, it stands; where they give none, the others decide
+abbrev pub followed : Checks → Checks → Checks
+followed granted ds = ds
+followed (n when b else cs) ds = n when b else followed cs ds
+
+pub first-gives : (cs ds : Checks) (n : ℕ) → lowest cs ≡ some n → lowest (followed cs ds) ≡ some n
+unfolding lowest
+first-gives granted ds n e = some-none (sym e)
+first-gives (m when true else cs) ds n e = e
+first-gives (m when false else cs) ds n e = first-gives cs ds n e
+
+pub first-leaves : (cs ds : Checks) → lowest cs ≡ none → lowest (followed cs ds) ≡ lowest ds
+unfolding lowest
+first-leaves granted ds e = refl
+first-leaves (m when true else cs) ds e = some-none e
+first-leaves (m when false else cs) ds e = first-leaves cs ds e
+
 -- two lists that begin with the same check
 pub lowest-under : (n : ℕ) (b : Bool) (cs ds : Checks) → (b ≡ false → lowest cs ≡ lowest ds)
     → lowest (n when b else cs) ≡ lowest (n when b else ds)

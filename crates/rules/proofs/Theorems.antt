@@ -7,6 +7,7 @@ use Rattle.rules.proofs.Locked.{locked-unit}
 use Rattle.rules.proofs.Counting.{one-answer-each}
 use Rattle.rules.proofs.Refused.{lowest-given, refusal-named, refused-changes-nothing}
 use Rattle.rules.proofs.Demand3.{demand-3}
+use Rattle.rules.proofs.Calls.{calls-follow, calls-demand-3, refused-leaves, refused-reads}
 use Rattle.rules.proofs.LogLaws.{log-is-its-commands}
 use Rattle.rules.proofs.LogDemand3.{log-demand-3}
 use Rattle.rules.proofs.FourCommands.{host-reads}
@@ -18,6 +19,10 @@ theorems =
     record {
       demand-3 = demand-3;
       log-demand-3 = log-demand-3;
+      calls-follow = calls-follow;
+      calls-demand-3 = calls-demand-3;
+      refused-leaves = refused-leaves;
+      refused-reads = refused-reads;
       lowest-given = lowest-given;
       refusal-named = refusal-named;
       refused-changes-nothing = refused-changes-nothing;

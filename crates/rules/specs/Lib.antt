@@ -10,6 +10,7 @@ pub mod Command
 pub mod Run
 pub mod Log
 pub mod Demand3
+pub mod Calls
 pub mod Claims
 pub mod FourCommands
 pub mod Examples

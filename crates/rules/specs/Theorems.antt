@@ -1,5 +1,5 @@
 -- All that is proved of the rules, in one record. Each line says of which ciphers, states and commands a claim holds;
--- the claims themselves stand in Demand3, Claims, FourCommands and Examples. Assumes nothing.
+-- the claims themselves stand in Demand3, Calls, Claims, FourCommands and Examples. Assumes nothing.
 use Prim.Native.Nat.{ℕ, _<_}
 use mathlib.Core.Path.{_≡_}
 use mathlib.Core.Bool.{true}
@@ -10,6 +10,7 @@ use Rattle.rules.specs.Units.{unitOf, unitBytes}
 use Rattle.rules.specs.State.{Cipher, State}
 use Rattle.rules.specs.Command.{Command, refusal}
 use Rattle.rules.specs.Demand3.{Demand3, LogDemand3}
+use Rattle.rules.specs.Calls.{CallsFollow, CallsDemand3, RefusedLeaves, RefusedReads}
 use Rattle.rules.specs.Claims.{LowestGiven, RefusalNamed, RefusedChangesNothing, TheMap, NoSpare, Sizes, SoundStays, LockedUnit, MovesExact, PowerUpClears, OneAnswerEach, LogIsItsCommands}
 use Rattle.rules.specs.FourCommands.{HostReads}
 use Rattle.rules.specs.Examples.{starred, Hold, stages, errors, NotEmpty, RepeatsChange}
@@ -19,6 +20,11 @@ pub record Theorems : Type 0 where
   -- demand 3, for lists of commands and for log runs
   pub demand-3 : (E : Cipher) (s : State) → sound (s .tag) ≡ true → Demand3 E s
   pub log-demand-3 : (E : Cipher) (s : State) → sound (s .tag) ≡ true → LogDemand3 E s
+  -- the same of calls of functions that carry commands out, and what a refused call leaves
+  pub calls-follow : (E : Cipher) → CallsFollow E
+  pub calls-demand-3 : (E : Cipher) (s : State) → sound (s .tag) ≡ true → CallsDemand3 E s
+  pub refused-leaves : (E : Cipher) → RefusedLeaves E
+  pub refused-reads : (E : Cipher) → RefusedReads E
   -- refusals
   pub lowest-given : (E : Cipher) (s : State) (c : Command) → LowestGiven E s c
   pub refusal-named : (E : Cipher) (s : State) (c : Command) (n : ℕ) → refusal E s c ≡ some n → RefusalNamed n

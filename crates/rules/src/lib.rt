@@ -90,6 +90,12 @@ pub enum Answer {
     Refused(Refusal),
 }
 
+/// A command's answer, and the session after it.
+pub struct Outcome {
+    pub answer: Answer,
+    pub session: Session,
+}
+
 /// What ends a run over a log: its end, a 15 or a 16.
 pub enum Stop {
     End,

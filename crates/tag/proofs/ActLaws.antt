@@ -1,8 +1,8 @@
 -- A verdict that is carried out leaves the tag and the session that the rules say. Assumes nothing.
 use Prim.Native.Nat.{ℕ, _+_, _≤_, _<_}
-use mathlib.Core.Path.{_≡_, refl, sym, ap, ap₂, _∙_, subst}
+use mathlib.Core.Path.{_≡_, refl, sym, ap, _∙_, subst}
 use mathlib.Core.Logic.{_⊎_, inl, inr}
-use mathlib.Core.Bool.{Bool, true, false}
+use mathlib.Core.Bool.{true, false}
 use mathlib.Core.List.{List, [], _∷_}
 use mathlib.Core.Option.{Option, none, some}
 use native.Mathlib.Omega.{arith}
@@ -21,28 +21,29 @@ use Rattle.rules.specs.declared.Place.the-variants.{Header, Hidden, RegisterOf,
 use Rattle.rules.specs.declared.Refusal.{Refusal}
 use Rattle.rules.specs.declared.Refusal.the-variants as refusal
 use Rattle.rules.specs.declared.Answer.the-variants.{Done, Refused}
-use Rattle.rules.specs.Bytes.{byte, part, xor}
-use Rattle.rules.specs.Map.{sound, segments, placeOf, unitAt}
+use Rattle.rules.specs.Bytes.{byte, part}
+use Rattle.rules.specs.Map.{sound, placeOf, unitAt}
 use Rattle.rules.specs.Units.{unitBytes, unitOf, wellFormed}
 use Rattle.rules.specs.State.{State, state, pinIndex, ownerIndex}
 use Rattle.rules.specs.Answers.{refusalOf, numberOf}
 use Rattle.rules.specs.Refusals.{lowest, writeChecks, segmentWriteChecks, registerChecks, plainChecks, responseChecks, nameChecks, commitChecks}
 use Rattle.rules.specs.Effects.{Store, _↤_, apply, stored, readOnly, writeMove, registerStores, registerSession, writeStores, writeSession, refusalStores}
-use Rattle.rules.specs.Command.{Command, read, write, advance, powerUp, refusal as refused-by, checks, after, afterBy, stores, newSession, sessionIn}
+use Rattle.rules.specs.Command.{Command, read, write, advance, powerUp, refusal as refused-by, checks, after, afterBy, newSession, sessionIn}
 use Rattle.rules.proofs.Tests.{some-none, same-some, passes}
-use Rattle.rules.proofs.BytesLaws.{byte-part}
-use Rattle.rules.proofs.Places.{the-map, placed, place-holds}
-use Rattle.rules.proofs.MapLaws.{units-fit, sound-facts, sound-long}
+use Rattle.rules.proofs.Places.{the-map}
+use Rattle.rules.proofs.MapLaws.{sound-long}
+use Rattle.rules.proofs.Refused.{eleven-or-none}
 use Rattle.rules.proofs.Grants.{granted-write, stores-write, commit-facts}
 use Rattle.units.specs.Decoded.{opened}
 use Rattle.units.proofs.Laws.{once-writable, opened-read-only}
 use Rattle.octets.proofs.Laws.{xor-swap, length-lent}
 use Rattle.tag.specs.declared.Verdict.{Verdict}
 use Rattle.tag.specs.declared.Verdict.the-variants as verdict
-use Rattle.registers.specs.Registers.{E}
-use Rattle.tag.specs.Contract.{CarriedOut}
+use Rattle.xxtea.specs.Block.{E}
+use Rattle.rules.specs.Calls.{CarriedOut}
 use Rattle.tag.specs.Verdict.{Judged, answerOf, actOf, actIn, actAt, storesBy, Fits}
 use Rattle.registers.specs.Registers.{Taken}
+use Rattle.tag.proofs.UnitLaws.{segment-found, unit-byte}
 use Rattle.rules.proofs.Refusal as the-refusal
 use Rattle.tag.proofs.Verdict as the-verdict
 
@@ -97,26 +98,6 @@ answer-done verdict.NextCount m = refl
 answer-done (verdict.Take r) m = refl
 answer-done (verdict.Refuse r) m = absurd (miss acting 5 tt m)
 
--- a refusal is 11, or it stores nothing
-pub eleven-or-none : (r : Refusal) → (r ≡ refusal.WrongResponse) ⊎ (refusalStores (numberOf r) ≡ [])
-unfolding refusalStores
-eleven-or-none refusal.Unsound = inr refl
-eleven-or-none refusal.Count = inr refl
-eleven-or-none refusal.Outside = inr refl
-eleven-or-none refusal.NeverTaken = inr refl
-eleven-or-none refusal.Malformed = inr refl
-eleven-or-none refusal.Forbidden = inr refl
-eleven-or-none refusal.OtherPin = inr refl
-eleven-or-none refusal.OtherName = inr refl
-eleven-or-none refusal.BadRegister = inr refl
-eleven-or-none refusal.FlagUsed = inr refl
-eleven-or-none refusal.WrongResponse = inl refl
-eleven-or-none refusal.NotNext = inr refl
-eleven-or-none refusal.BadEdit = inr refl
-eleven-or-none refusal.NoAdvance = inr refl
-eleven-or-none refusal.Unreadable = inr refl
-eleven-or-none refusal.NoRoom = inr refl
-
 abbrev pub quiets : List ℕ
 quiets = 0 ∷ 1 ∷ 2 ∷ 3 ∷ 4 ∷ 5 ∷ 6 ∷ 7 ∷ 8 ∷ 9 ∷ 11 ∷ 12 ∷ 13 ∷ 14 ∷ 15 ∷ []
 
@@ -130,23 +111,19 @@ quiet r m = by (eleven-or-none r)
 -- ---- what a granted write stores in its place is what the rules say
 
 module _ (s : State) (a : ℕ) (bs : List ℕ) where
-  first : (k : ℕ) → byte 0 (unitBytes (s .tag) k) ≡ byte (unitAt k) (s .tag)
-  unfolding unitBytes
-  first k =
-      let z : unitAt k + 0 ≡ unitAt k = omega arith in
-      byte-part (unitAt k) 32 (s .tag) 0 (omega arith) ∙ ap (λ i. byte i (s .tag)) z
-
   segment-stores : (k : ℕ) (m : Model) → unitOf (unitBytes (s .tag) k) .model ≡ m → Bytes (s .tag)
-      → a + length bs ≤ length (s .tag) → wellFormed (unitBytes (s .tag) k) ≡ true → unitOf (unitBytes (s .tag) k) .wr ≡ true
+      → a + length bs ≤ length (s .tag) → wellFormed (unitBytes (s .tag) k) ≡ true
+      → unitOf (unitBytes (s .tag) k) .wr ≡ true
       → madeBy (actOf k m) s a bs
       ≡ ((a ↤ stored m (part a (length bs) (s .tag)) bs) ∷ writeMove m (unitAt k) (unitBytes (s .tag) k))
   unfolding madeBy actOf storesBy stored writeMove
   segment-stores k Default e b l w h = refl
   segment-stores k WriteOnce e b l w h =
       let u = unitBytes (s .tag) k in
+      let low : byte 0 u < 256 = rw (unit-byte (s .tag) k) (b (unitAt k)) in
       let r : opened (byte 0 u) ≡ readOnly (byte 0 u) =
-      unfold unitOf in (opened-read-only (byte 0 u) (rw (first k) (b (unitAt k))) h (once-writable u w e h)) in
-      ap (λ x. (a ↤ bs) ∷ (unitAt k ↤ (x ∷ [])) ∷ []) (ap opened (sym (first k)) ∙ r)
+      unfold unitOf in (opened-read-only (byte 0 u) low h (once-writable u w e h)) in
+      ap (λ x. (a ↤ bs) ∷ (unitAt k ↤ (x ∷ [])) ∷ []) (ap opened (sym (unit-byte (s .tag) k)) ∙ r)
   segment-stores k Counter e b l w h = refl
   segment-stores k (Receiver Zero) e b l w h = refl
   segment-stores k (Receiver One) e b l w h =
@@ -172,7 +149,8 @@ module _ (s : State) (a : ℕ) (bs : List ℕ) where
 
   granted-in : (p : Place) → sound (s .tag) ≡ true → Bytes (s .tag) → placeOf (s .tag) a (length bs) ≡ some p
       → lowest (writeChecks E s p a bs) ≡ none
-      → (madeBy (actIn (s .tag) p) s a bs ≡ writeStores E s p a bs) × (sessionBy (actIn (s .tag) p) s bs ≡ writeSession E s p bs)
+      → (madeBy (actIn (s .tag) p) s a bs ≡ writeStores E s p a bs)
+      × (sessionBy (actIn (s .tag) p) s bs ≡ writeSession E s p bs)
   unfolding actIn madeBy sessionBy storesBy writeStores writeSession writeChecks lowest
   granted-in Header w b e f = (refl, refl)
   granted-in Hidden w b e f = some-none f
@@ -248,8 +226,7 @@ module _ (s : State) (a : ℕ) (bs : List ℕ) where
       by (UnitOf k) e l = l
       by Spare e l = l
       by (Segment k) e l =
-          let x = placed (s .tag) (Segment k) a (length bs) w (place-holds (s .tag) (Segment k) a (length bs) e) in
-          let u = units-fit (segments (s .tag)) (sound-facts (s .tag) w .most-segments) in
+          let x = segment-found (s .tag) (Segment k) k a (length bs) w e refl in
           fit-segment k _ l (omega arith)
       by (Public k) e l = l
 
@@ -344,7 +321,7 @@ Tested (advance k) = Prim.Unit
 Tested powerUp = ⊥
 
 pub unsound : (s : State) (c : Command) → Tested c → sound (s .tag) ≡ false
-    → CarriedOut s c (s .tag) (record { answer = Refused refusal.Unsound; session = s .session })
+    → CarriedOut E s c (s .tag) (record { answer = Refused refusal.Unsound; session = s .session })
 unfolding refused-by checks after afterBy refusalStores apply lowest
 unsound s (read a n room) p e = record { answered = rw e; left = rw e }
 unsound s (write a bs) p e = record { answered = rw e; left = rw e }

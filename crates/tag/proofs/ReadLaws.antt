@@ -24,7 +24,7 @@ use Rattle.rules.specs.declared.Place.the-variants.{Header, Hidden, RegisterOf,
 use Rattle.rules.specs.declared.Place.the-variants.{UnitOf, Spare, Segment, Public}
 use Rattle.rules.specs.declared.Refusal.{Refusal}
 use Rattle.rules.specs.Bytes.{byte, part, put, same}
-use Rattle.rules.specs.Map.{sound, segments, publics, placeOf, unitAt}
+use Rattle.rules.specs.Map.{sound, segments, placeOf, unitAt}
 use Rattle.rules.specs.Units.{unitOf, unitBytes, wellFormed, nameOf}
 use Rattle.rules.specs.State.{Cipher, State, state}
 use Rattle.rules.specs.Answers.{numberOf, refusalOf}
@@ -35,27 +35,19 @@ use Rattle.rules.specs.Command.{read, advance, checks, refusal, inPlace, reply,
 use Rattle.rules.specs.Command.{after, afterBy, stores, newSession}
 use Rattle.rules.specs.Claims.{Applies}
 use Rattle.rules.proofs.Tests.{true-false, some-none, or-false, passes, gives, leaves, none-applies}
-use Rattle.rules.proofs.BytesLaws.{length-put, byte-part}
-use Rattle.rules.proofs.MapLaws.{sound-long, sizes}
-use Rattle.rules.proofs.Places.{the-map, place-holds, placed, Extent}
+use Rattle.rules.proofs.BytesLaws.{length-put}
+use Rattle.rules.proofs.MapLaws.{sizes}
+use Rattle.rules.proofs.Places.{the-map}
 use Rattle.rules.proofs.Grants.{reply-is}
 use Rattle.rules.proofs.Refused.{lowest-given, read-not-11, refused-stays}
-use Rattle.octets.proofs.Laws.{part-lent, length-lent, put-back}
-use Rattle.units.specs.declared.Decoded.the-variants.{Unit as Whole, Malformed}
+use Rattle.octets.proofs.Laws.{part-lent, put-back}
+use Rattle.units.specs.declared.Decoded.the-variants.{Unit as Whole}
 use Rattle.units.specs.Decoded.{decoded, movedTo}
-use Rattle.units.proofs.Laws.{decoded-whole, decoded-malformed, moved-advanced}
+use Rattle.units.proofs.Laws.{decoded-whole, moved-advanced}
 use Rattle.tag.specs.declared.Move.{Move}
 use Rattle.tag.specs.declared.Move.the-variants.{Advance, Refuse}
 use Rattle.tag.specs.Verdict.{rights, MoveJudged, moveAnswer}
-
--- ---- 5, by what a unit is decoded to
-
-pub formless : (u : List ℕ) (cs : Checks) → decoded u ≡ Malformed → lowest (5 when not (wellFormed u) else cs) ≡ some 5
-formless u cs e = gives 5 _ cs (ap not (decoded-malformed u e))
-
-pub formed : (u : List ℕ) (x : Unit) (cs : Checks) → decoded u ≡ Whole x
-    → lowest (5 when not (wellFormed u) else cs) ≡ lowest cs
-formed u x cs e = leaves 5 _ cs (ap not (decoded-whole u x e .0))
+use Rattle.tag.proofs.UnitLaws.{formed, UnitInside, unit-inside, unit-length, unit-byte}
 
 -- ---- reads of a segment and of a unit
 
@@ -98,52 +90,16 @@ unreadable s Spare a n o = gives 4 true granted refl
 unreadable s (Segment k) a n o = absurd (miss (1 ∷ 2 ∷ 3 ∷ 6 ∷ []) 7 tt o)
 unreadable s (Public k) a n o = absurd (miss (1 ∷ 2 ∷ 3 ∷ 6 ∷ []) 8 tt o)
 
--- ---- where the unit of a segment lies
-
-pub record UnitInside (t : List ℕ) (k : ℕ) : Type 0 where
-  pub among : k < segments t
-  pub inside : unitAt k + 32 ≤ length t
-  pub small : length t ≤ 1064960
-
-unit-inside : (t : List ℕ) (k : ℕ) → sound t ≡ true → k < segments t → UnitInside t k
-unit-inside t k w h =
-    let g = sound-long t w in record { among = h; inside = omega arith; small = sizes t w .largest }
-
--- by the test of an advance
-pub unit-counted : (t : List ℕ) (k m : ℕ) → sound t ≡ true → m ≡ segments t → not (ltb k m) ≡ false → UnitInside t k
-unit-counted t k m w e h = unit-inside t k w (rw (← e) (ltb-true k m (not-false _ h)))
-
--- a range that is found in a place lies there
-found-there : (t : List ℕ) (p q : Place) (a n : ℕ) → sound t ≡ true → placeOf t a n ≡ some p → p ≡ q
-    → Extent (segments t) (publics t) q a n
-found-there t p q a n w e f = placed t q a n w (place-holds t q a n (e ∙ ap some f))
-
--- the unit that is read, which begins before the range; and the unit of the segment that is read
-pub unit-found : (t : List ℕ) (p : Place) (k a n : ℕ) → sound t ≡ true → placeOf t a n ≡ some p → p ≡ UnitOf k
-    → UnitInside t k × (unitAt k ≤ a) × (a + n ≤ unitAt k + 32)
-unit-found t p k a n w e f =
-    let x = found-there t p (UnitOf k) a n w e f in (unit-inside t k w (x .0), x .1, x .2)
-
-pub segment-found : (t : List ℕ) (p : Place) (k a n : ℕ) → sound t ≡ true → placeOf t a n ≡ some p → p ≡ Segment k
-    → UnitInside t k
-segment-found t p k a n w e f = unit-inside t k w (found-there t p (Segment k) a n w e f .0)
-
--- the unit as it is lent
-pub unit-lent : (t : List ℕ) (k : ℕ) → midOf (unitAt k) (unitAt k + 32 - unitAt k) t ≡ unitBytes t k
-unfolding unitBytes
-unit-lent t k = part-lent (unitAt k) 32 t
-
-pub unit-read-in : (t : List ℕ) (v : Session) (p : Place) (k a n : ℕ) → p ≡ UnitOf k
-    → lowest (unitReadChecks (midOf (unitAt k) (unitAt k + 32 - unitAt k) t) (a + n - unitAt k))
-    ≡ lowest (readChecks (state t v) p a n)
+-- the unit that is read, and the unit of the segment that is read
+pub unit-read-in : (t : List ℕ) (v : Session) (p : Place) (k a n : ℕ) (u : List ℕ) → u ≡ unitBytes t k → p ≡ UnitOf k
+    → lowest (unitReadChecks u (a + n - unitAt k)) ≡ lowest (readChecks (state t v) p a n)
 unfolding readChecks
-unit-read-in t v p k a n e = rw (e, ← unit-lent t k)
+unit-read-in t v p k a n u e f = rw (e, f)
 
-pub segment-read-in : (t : List ℕ) (v : Session) (p : Place) (k a n : ℕ) → p ≡ Segment k
-    → lowest (segmentReadChecks (v .read) (v .name) (midOf (unitAt k) (unitAt k + 32 - unitAt k) t))
-    ≡ lowest (readChecks (state t v) p a n)
+pub segment-read-in : (t : List ℕ) (v : Session) (p : Place) (k a n : ℕ) (u : List ℕ) → u ≡ unitBytes t k
+    → p ≡ Segment k → lowest (segmentReadChecks (v .read) (v .name) u) ≡ lowest (readChecks (state t v) p a n)
 unfolding readChecks
-segment-read-in t v p k a n e = rw (e, ← unit-lent t k)
+segment-read-in t v p k a n u e f = rw (e, f)
 
 -- ---- the checks before those of a place
 
@@ -172,10 +128,6 @@ unfolding inPlace
 placed-nowhere f = gives 3 true granted refl
 
 module _ (E : Cipher) (s : State) (a n room : ℕ) where
-  pub read-unsound : sound (s .tag) ≡ false → refusal E s (read a n room) ≡ some 1
-  unfolding refusal checks
-  read-unsound w = gives 1 _ _ (ap not w)
-
   pub read-miscounted : sound (s .tag) ≡ true → miscounted n room ≡ true
       → refusal E s (read a n room) ≡ some 2
   unfolding refusal checks
@@ -286,27 +238,21 @@ put-unit : (t : List ℕ) (k : ℕ) (bs : List ℕ) → length bs ≤ 32
 unfolding unitBytes
 put-unit t k bs h = put-part (unitAt k) 32 bs t h
 
-unit-length : (t : List ℕ) (k : ℕ) → unitAt k + 32 ≤ length t → length (unitBytes t k) ≡ 32
-unfolding unitBytes
-unit-length t k h = length-lent (unitAt k) 32 t h
-
-unit-byte : (t : List ℕ) (k : ℕ) → byte 0 (unitBytes t k) ≡ byte (unitAt k) t
-unfolding unitBytes
-unit-byte t k =
-    let z : unitAt k + 0 ≡ unitAt k = omega arith in
-    byte-part (unitAt k) 32 t 0 (omega arith) ∙ ap (λ i. byte i t) z
-
 length-moved : (g : Stage) (u : List ℕ) → length (movedTo g u) ≡ 2
 unfolding movedTo
 length-moved Zero u = refl
 length-moved One u = refl
 length-moved Two u = refl
 
-module _ (E : Cipher) (s : State) (k : ℕ) where
-  pub advance-unsound : sound (s .tag) ≡ false → refusal E s (advance k) ≡ some 1
-  unfolding refusal checks
-  advance-unsound w = gives 1 _ _ (ap not w)
+-- a unit that the test of an advance finds, and the unit as it is lent
+pub unit-counted : (t : List ℕ) (k m : ℕ) → sound t ≡ true → m ≡ segments t → not (ltb k m) ≡ false → UnitInside t k
+unit-counted t k m w e h = unit-inside t k w (rw (← e) (ltb-true k m (not-false _ h)))
 
+pub unit-lent : (t : List ℕ) (k : ℕ) → midOf (unitAt k) (unitAt k + 32 - unitAt k) t ≡ unitBytes t k
+unfolding unitBytes
+unit-lent t k = part-lent (unitAt k) 32 t
+
+module _ (E : Cipher) (s : State) (k : ℕ) where
   pub advance-outside : (m : ℕ) → sound (s .tag) ≡ true → m ≡ segments (s .tag) → not (ltb k m) ≡ true
       → refusal E s (advance k) ≡ some 3
   unfolding refusal checks
@@ -363,7 +309,7 @@ module _ (E : Cipher) (s : State) (k : ℕ) where
       let ms = movedTo g u in
       let f = advance-formed _ _ u (sym (advance-placed w h) ∙ e) in
       let b : byte 0 u < 256 = rw (unit-byte t k) l in
-      let back = put-back (unitAt k) 32 t ys (put 0 ms u) q (length-put 0 ms u ∙ unit-length t k i) i in
+      let back = put-back (unitAt k) 32 t ys (put 0 ms u) q (length-put 0 ms u ∙ unit-length t k u refl i) i in
       let moved = put-unit t k ms (omega (arith, length-moved g u)) in
       ap (λ x. state x (s .session)) (back ∙ moved ∙ ap (λ x. put (unitAt k) x t) (moved-advanced u g b f m))
       ∙ advance-granted g e m

@@ -1,32 +1,25 @@
 -- What the functions of `tag` hand each other. The public contracts do not cite it.
 use Prim.Native.Nat.{ℕ, _+_, _≤_, _<_}
 use mathlib.Core.Path.{_≡_}
-use mathlib.Core.Logic.{_⊎_}
-use mathlib.Core.Bool.{Bool, not}
+use mathlib.Core.Bool.{Bool}
 use mathlib.Core.List.{List, [], _∷_}
 use mathlib.Core.Option.{Option, none, some}
 use lib.ListN.{length}
-use lib.Dec.{eqb, leb}
-use Rattle.rules.specs.declared.Session.{Session}
 use Rattle.rules.specs.declared.Stage.{Stage}
 use Rattle.rules.specs.declared.Stage.the-variants.{Zero, One, Two}
 use Rattle.rules.specs.declared.Model.{Model}
 use Rattle.rules.specs.declared.Model.the-variants.{Default, WriteOnce, Counter, Receiver}
-use Rattle.rules.specs.declared.Register.{Register}
-use Rattle.rules.specs.declared.Register.the-variants.{Name, Commit}
 use Rattle.rules.specs.declared.Place.{Place}
 use Rattle.rules.specs.declared.Place.the-variants.{Header, Hidden, RegisterOf, Pins, Readers, UnitOf, Spare, Segment, Public}
 use Rattle.rules.specs.declared.Answer.{Answer}
 use Rattle.rules.specs.declared.Answer.the-variants.{Done, Refused}
-use Rattle.rules.specs.Bytes.{byte, part, xor, number, same}
-use Rattle.rules.specs.Map.{unitAt, flag}
+use Rattle.rules.specs.Bytes.{byte, part, xor}
+use Rattle.rules.specs.Map.{unitAt}
 use Rattle.rules.specs.Units.{unitBytes, unitOf}
-use Rattle.rules.specs.State.{pinIndex, ownerIndex, pin, owner, response}
 use Rattle.rules.specs.Answers.{refusalOf, numberOf}
 use Rattle.rules.specs.Refusals.{Checks, _when_else_, granted, lowest}
 use Rattle.rules.specs.Effects.{Store, _↤_, setFlag, refusalStores}
 use Rattle.units.specs.Decoded.{opened}
-use Rattle.registers.specs.Registers.{E}
 use Rattle.tag.specs.declared.Verdict.{Verdict}
 use Rattle.tag.specs.declared.Verdict.the-variants as verdict
 use Rattle.tag.specs.declared.Move.{Move}

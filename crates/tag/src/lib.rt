@@ -1,30 +1,30 @@
 // The commands of a tag: document 01, "What a command does". Each judges first, by a function for each place, and
 // touches nothing before its verdict; then the verdict is carried out. The public contracts are equations with the
-// definitions of `rules`, with XXTEA on blocks (`E`) as the cipher.
+// definitions of `rules`, `CarriedOut` in Calls.antt, with XXTEA on blocks (`E`) as the cipher.
 ghost use mathlib.Core.Path.{_≡_};
 ghost use mathlib.Core.Bool.{true, not};
 ghost use mathlib.Core.List.{[], _∷_};
 ghost use mathlib.Core.Option.{some};
-ghost use Prim.Native.Nat.{_+_, _-_, _*_, _%_, _≤_, _<_};
+ghost use Prim.Native.Nat.{_+_, _%_, _≤_, _<_};
 ghost use lib.ListN.{length};
-ghost use lib.Dec.{eqb, leb};
-ghost use Rattle.rules.specs.Bytes.{byte, part, put, same, xor, all};
-ghost use Rattle.rules.specs.Map.{sound, placeOf, flag, unitAt, pinAt};
+ghost use lib.Dec.{eqb};
+ghost use Rattle.rules.specs.Bytes.{byte, part, put, all};
+ghost use Rattle.rules.specs.Map.{sound, placeOf, unitAt};
 ghost use Rattle.rules.specs.Units.{unitOf, unitBytes};
-ghost use Rattle.rules.specs.State.{state, poweredUp, response};
-ghost use Rattle.rules.specs.State as states;
+ghost use Rattle.rules.specs.State.{state, poweredUp};
 ghost use Rattle.rules.specs.Answers.{refusalOf, numberOf};
-ghost use Rattle.rules.specs.Refusals.{lowest, granted, _when_else_, isNext, slotRefuses, segmentReadChecks, segmentWriteChecks, unitReadChecks, editChecks, editAllowed, canAdvance, advanceChecks, headerWriteChecks, registerChecks, readChecks, writeChecks};
-ghost use Rattle.rules.specs.Effects.{apply, refusalStores, registerStores, registerSession};
+ghost use Rattle.rules.specs.Refusals.{lowest, granted, _when_else_, isNext, slotRefuses, segmentReadChecks, segmentWriteChecks, unitReadChecks, editChecks, editAllowed, canAdvance, advanceChecks, headerWriteChecks, readChecks, writeChecks};
+ghost use Rattle.rules.specs.Effects.{apply, refusalStores};
 ghost use Rattle.units.specs.Decoded.{opened};
 ghost use Rattle.rules.specs.Command.{refusal, after, reply, filled};
 ghost use Rattle.rules.specs.Command as command;
-ghost use Rattle.registers.specs.Registers.{E};
-ghost use Rattle.tag.specs.Contract.{CarriedOut};
+ghost use Rattle.xxtea.specs.Block.{E};
+ghost use Rattle.rules.specs.Calls.{CarriedOut};
 ghost use Rattle.tag.specs.Verdict.{rights, answerOf, verdictOf, Judged, actOf, actIn, actAt, storesBy, Fits, MoveJudged};
 use layout::Found;
 use rules::Answer;
 use rules::Model;
+use rules::Outcome;
 use rules::Place;
 use rules::Refusal;
 use rules::Register;
@@ -32,20 +32,11 @@ use rules::Session;
 use rules::Stage;
 use units::Decoded;
 
-// The flag of the header, and where the roll-back counter and the owner PINs, PINs and units begin.
+// The address of the usage flag.
 const FLAG: usize = 12;
 
-const OWNERS: usize = 16;
-
-const PINS: usize = 4096;
-
+// The address of unit 0.
 const UNITS: usize = 12288;
-
-// A command's answer, and the session after it.
-pub struct Outcome {
-    pub answer: Answer,
-    pub session: Session,
-}
 
 // What a write comes to.
 enum Verdict {
@@ -132,16 +123,10 @@ fn judge_read_in(tag: &[u8], session: Session, place: Place, at: usize, n: usize
 {
     match place {
         Place::Header | Place::Readers | Place::Public(_) => Answer::Done,
-        Place::UnitOf(k) => {
-            let start = UNITS + 32 * k;
-            let end = start + 32;
-            judge_unit_read(&tag[start..end], at + n - start)
-        }
+        Place::UnitOf(k) => judge_unit_read(layout::unit_of(tag, k), at + n - (UNITS + 32 * k)),
         Place::Segment(k) => {
-            let start = UNITS + 32 * k;
-            let end = start + 32;
             let name = session.name;
-            judge_segment_read(&tag[start..end], session.read, &name)
+            judge_segment_read(layout::unit_of(tag, k), session.read, &name)
         }
         _ => Answer::Refused(Refusal::NeverTaken),
     }
@@ -307,21 +292,17 @@ fn judge_edit_at(tag: &[u8], edit: usize, k: usize, at: usize, data: &[u8]) -> A
     requires { ⌜ (unitAt k ≤ at) × (at + length (now «data») ≤ unitAt k + 32) × (unitAt k + 32 ≤ length (now tag)) ⌝ }
     ensures { λ r. ⌜ refusalOf r ≡ lowest (editChecks edit (unitBytes (now (tag .entry)) k) (unitBytes (put at (now («data» .entry)) (now (tag .entry))) k)) ⌝ }
 {
-    let start = UNITS + 32 * k;
-    let end = start + 32;
-    judge_edit(&tag[start..end], edit, at - start, data)
+    judge_edit(layout::unit_of(tag, k), edit, at - (UNITS + 32 * k), data)
 }
 
 fn judge_segment_at(tag: &[u8], session: Session, k: usize, at: usize, data: &[u8]) -> Verdict
     requires { ⌜ (at + length (now «data») ≤ length (now tag)) × (unitAt k + 32 ≤ length (now tag)) ⌝ }
     ensures { λ r. ⌜ Judged (segmentWriteChecks (session .write) (session .name) (unitBytes (now (tag .entry)) k) at (part at (length (now («data» .entry))) (now (tag .entry))) (now («data» .entry))) (actOf k (unitOf (unitBytes (now (tag .entry)) k) .model)) r ⌝ }
 {
-    let start = UNITS + 32 * k;
-    let end = start + 32;
     let past = at + data.len();
     let name = session.name;
     judge_segment_write(
-        &tag[start..end],
+        layout::unit_of(tag, k),
         session.write,
         &name,
         k,
@@ -418,7 +399,7 @@ fn carry_out(tag: &mut [u8], at: usize, data: &[u8], verdict: Verdict)
 
 fn write_sound(tag: &mut [u8], session: Session, at: usize, data: &[u8]) -> Outcome
     requires { ⌜ sound (now tag) ≡ true ⌝ }
-    ensures { λ r. ⌜ CarriedOut (state (now (tag .entry)) session) (command.write at (now («data» .entry))) (now (tag .exit)) r ⌝ }
+    ensures { λ r. ⌜ CarriedOut E (state (now (tag .entry)) session) (command.write at (now («data» .entry))) (now (tag .exit)) r ⌝ }
 {
     let verdict = judge_write(tag, session, at, data);
     if let Verdict::Take(register) = verdict {
@@ -475,11 +456,11 @@ fn advance_sound(tag: &mut [u8], session: Session, segment: usize) -> Answer
     if !(segment < layout::segments(tag)) {
         return Answer::Refused(Refusal::Outside);
     }
-    let start = UNITS + 32 * segment;
-    let end = start + 32;
     let name = session.name;
-    match judge_advance(&tag[start..end], session.write, &name) {
+    match judge_advance(layout::unit_of(tag, segment), session.write, &name) {
         Move::Advance(stage) => {
+            let start = UNITS + 32 * segment;
+            let end = start + 32;
             units::advance(&mut tag[start..end], stage);
             Answer::Done
         }
@@ -496,7 +477,7 @@ pub fn read(
     count: usize,
     output: &mut [u8],
 ) -> Outcome
-    ensures { λ r. ⌜ CarriedOut (state (now (tag .entry)) session) (command.read address count (length (now (output .entry)))) (now (tag .entry)) r ⌝ }
+    ensures { λ r. ⌜ CarriedOut E (state (now (tag .entry)) session) (command.read address count (length (now (output .entry)))) (now (tag .entry)) r ⌝ }
     ensures { λ _. ⌜ now (output .exit) ≡ filled (reply E (state (now (tag .entry)) session) (command.read address count (length (now (output .entry))))) (now (output .entry)) ⌝ }
 {
     if !layout::sound(tag) {
@@ -510,7 +491,7 @@ pub fn read(
 }
 
 pub fn write(tag: &mut [u8], session: Session, address: usize, data: &[u8]) -> Outcome
-    ensures { λ r. ⌜ CarriedOut (state (now (tag .entry)) session) (command.write address (now («data» .entry))) (now (tag .exit)) r ⌝ }
+    ensures { λ r. ⌜ CarriedOut E (state (now (tag .entry)) session) (command.write address (now («data» .entry))) (now (tag .exit)) r ⌝ }
 {
     if !layout::sound(tag) {
         return Outcome {
@@ -522,7 +503,7 @@ pub fn write(tag: &mut [u8], session: Session, address: usize, data: &[u8]) -> O
 }
 
 pub fn advance(tag: &mut [u8], session: Session, segment: usize) -> Outcome
-    ensures { λ r. ⌜ CarriedOut (state (now (tag .entry)) session) (command.advance segment) (now (tag .exit)) r ⌝ }
+    ensures { λ r. ⌜ CarriedOut E (state (now (tag .entry)) session) (command.advance segment) (now (tag .exit)) r ⌝ }
 {
     if !layout::sound(tag) {
         return Outcome {

@@ -176,7 +176,8 @@ edit-malformed u w e = rw (decoded-malformed w e)
 -- ---- what the model says of byte 1, RD and WR
 
 -- the model that stands in a well-formed unit, if it is another than the default one, is read from byte 1, and fits
-read-model : (b f : Bool) (m n : Model) → (not b || f) ≡ true → cond b m Default ≡ n → n ≢ Default → (f ≡ true) × (m ≡ n)
+read-model : (b f : Bool) (m n : Model) → (not b || f) ≡ true → cond b m Default ≡ n → n ≢ Default
+    → (f ≡ true) × (m ≡ n)
 read-model false f m n w e d = absurd (d (sym e))
 read-model true f m n w e d = (w, e)
 
@@ -235,10 +236,6 @@ stands : (u : List ℕ) (g : Stage) → wellFormed u ≡ true → unitOf u .mode
 stands u g w e =
     let x = model-fits u (Receiver g) w e (λ d. clash (cc)) in
     receiver-fits (modelNo u) (stageNo u) g _ _ (x .0) (x .1)
-
--- a unit of model 3 at stage 2 cannot be written
-pub stage-two-closed : (u : List ℕ) → wellFormed u ≡ true → unitOf u .model ≡ Receiver Two → unitOf u .wr ≡ false
-stage-two-closed u w e = stands u Two w e .1 .2
 
 -- ---- moves
 

@@ -2,7 +2,7 @@
 -- four words, low byte first." Assumes nothing.
 use Prim.Native.Nat.{ℕ, _+_, _*_, _/_, _%_, _^_}
 use mathlib.Core.List.{List, [], _∷_}
-use Rattle.xxtea.specs.Xxtea.{Direction, crypted}
+use Rattle.xxtea.specs.Xxtea.{Direction, up, crypted}
 
 -- four bytes make a word; fewer make none
 unfoldable pub wordsOf : List ℕ → List ℕ
@@ -19,3 +19,7 @@ bytesOf (w ∷ ws) = (w % 2 ^ 8) ∷ (w / 2 ^ 8 % 2 ^ 8) ∷ (w / 2 ^ 16 % 2 ^ 8
 -- a block by a key, in either direction
 unfoldable pub blockBy : Direction → (key block : List ℕ) → List ℕ
 blockBy d key block = bytesOf (crypted d (wordsOf key) (wordsOf block))
+
+-- "E_K" of document 01: a block enciphered by a key
+abbrev pub E : (key block : List ℕ) → List ℕ
+E = blockBy up

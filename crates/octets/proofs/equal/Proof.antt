@@ -38,14 +38,16 @@ loop-again c =
     let at = c .before .before .before in
     let s = at .before .before in (
       omega arith,
-      same-next (at .loop .all) (at .loop .i) (s .args .a .now) (s .args .b .now) (omega arith) (omega arith) (at .loop .inv .1),
+      same-next (at .loop .all) (at .loop .i) (s .args .a .now) (s .args .b .now) (omega arith) (omega arith)
+          (at .loop .inv .1),
     )
 
 returns-2 : tie.Need-returns-2 Inv-loop μ-loop
 returns-2 c =
     let at = c .before in
     let s = at .before .before in
-    same-end (at .loop .all) (at .loop .i) (s .args .a .now) (s .args .b .now) (omega arith) (omega arith) (at .loop .inv .1)
+    same-end (at .loop .all) (at .loop .i) (s .args .a .now) (s .args .b .now) (omega arith) (omega arith)
+    (at .loop .inv .1)
 
 pub equal-spec : {M : Type 1} → statement M
 equal-spec =

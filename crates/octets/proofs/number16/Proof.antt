@@ -1,6 +1,5 @@
 -- `octets::number16` meets its contract: Horner's rule. Assumes nothing.
 use native.Mathlib.Omega.{arith}
-use mathlib.Core.Path.{_≡_}
 use Rattle.octets.proofs.Laws.{horner}
 use borrow.Author.Needs.{needs}
 use Rattle.octets.proofs.number16.Statement.{statement}

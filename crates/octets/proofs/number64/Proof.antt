@@ -1,6 +1,5 @@
 -- `octets::number64` meets its contract: Horner's rule. Assumes nothing.
 use native.Mathlib.Omega.{arith}
-use mathlib.Core.Path.{_≡_}
 use Rattle.octets.proofs.Laws.{horner}
 use borrow.Author.Needs.{needs}
 use Rattle.octets.proofs.number64.Statement.{statement}
@@ -119,7 +118,8 @@ add-result-4 c = search needs
 
 returns : tie.Need-returns
 returns c =
-    let start = c .before .before .before .before .before .before .before .before .before .before .before .before .before .before .before .before .before in
+    let last = c .before .before .before .before .before .before .before .before in
+    let start = last .before .before .before .before .before .before .before .before .before in
     cc (horner 7 (start .args .bytes .now) (start .args .at) (omega arith))
 
 pub number64-spec : {M : Type 1} → statement M

@@ -1,5 +1,5 @@
 -- `octets::store` meets its contract. Assumes nothing.
-use mathlib.Core.Path.{_≡_, ap, _∙_}
+use mathlib.Core.Path.{ap, _∙_}
 use lib.ListN.{length}
 use lib.Dec.{eqb}
 use borrow.Author.Tests.{eqb-true}
@@ -30,9 +30,14 @@ same-length c = search needs
 
 returns : tie.Need-returns
 returns c =
-    let a = c .before .before .before .before .before .before .before .before .before .before .before .args in
-    let l = eqb-true (length (a .«data» .now)) 8 (and-true (eqb (length (a .bytes .now)) 8) (eqb (length (a .«data» .now)) 8) (c .before .before .before .before .before .before .before .before .if1 .taken) .1) in
-    c .before .before .copy2 .ensures ∙ ap (λ bs. put 0 bs (a .bytes .now)) (c .before .before .before .before .before .before .copy .ensures ∙ put-whole (a .«data» .now) _ l)
+    let first = c .before .before .before .before .before .before in
+    let test = first .before .before in
+    let a = test .before .before .before .args in
+    let bs = a .«data» .now in
+    let both = and-true (eqb (length (a .bytes .now)) 8) (eqb (length bs) 8) (test .if1 .taken) in
+    let l = eqb-true (length bs) 8 (both .1) in
+    c .before .before .copy2 .ensures
+    ∙ ap (λ bs. put 0 bs (a .bytes .now)) (first .copy .ensures ∙ put-whole bs _ l)
 
 same-length-2 : tie.Need-same-length-2
 same-length-2 c = search needs

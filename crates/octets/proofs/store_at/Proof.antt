@@ -1,6 +1,5 @@
 -- `octets::store_at` meets its contract: the part that was lent comes back as the data. Assumes nothing.
-use mathlib.Core.Path.{_≡_, refl, sym, _∙_}
-use native.Mathlib.Omega.{arith}
+use mathlib.Core.Path.{refl, sym, _∙_}
 use lib.ListN.{length}
 use Rattle.octets.proofs.Laws.{part-lent, length-lent, put-whole, put-back}
 use borrow.Author.Needs.{needs}
@@ -27,11 +26,13 @@ same-length c = search needs
 
 returns : tie.Need-returns
 returns c =
-    let a = c .before .before .before .before .before .before .args in
+    let start = c .before .before .before .before .before .before in
+    let a = start .args in
     let bs = a .«data» .now in
-    let l = length-lent (a .at) (length bs) (a .bytes .now) (c .before .before .before .before .before .before .pre) in
+    let l = length-lent (a .at) (length bs) (a .bytes .now) (start .pre) in
     put-back (a .at) (length bs) (a .bytes .now) _ bs
-    (c .before .before .store .ensures ∙ rw (part-lent (a .at) (length bs) (a .bytes .now)) (put-whole bs _ (sym l))) refl (c .before .before .before .before .before .before .pre)
+    (c .before .before .store .ensures ∙ rw (part-lent (a .at) (length bs) (a .bytes .now)) (put-whole bs _ (sym l)))
+    refl (start .pre)
 
 pub store-at-spec : {M : Type 1} → statement M
 store-at-spec =

@@ -1,5 +1,5 @@
 -- `octets::xor_at` meets its contract: the part that was lent comes back as its XOR. Assumes nothing.
-use mathlib.Core.Path.{_≡_, refl, sym, ap, _∙_}
+use mathlib.Core.Path.{ap, _∙_}
 use lib.ListN.{length}
 use Rattle.rules.specs.Bytes.{part, xor}
 use Rattle.rules.proofs.BytesLaws.{length-xor}
@@ -28,12 +28,13 @@ same-length c = search needs
 
 returns : tie.Need-returns
 returns c =
-    let a = c .before .before .before .before .before .before .args in
+    let start = c .before .before .before .before .before .before in
+    let a = start .args in
     let bs = a .«data» .now in
     let old = part (a .at) (length bs) (a .bytes .now) in
     put-back (a .at) (length bs) (a .bytes .now) _ (xor old bs)
     (c .before .before .xor-into .ensures ∙ ap (λ l. xor l bs) (part-lent (a .at) (length bs) (a .bytes .now)))
-    (length-xor old bs ∙ length-lent (a .at) (length bs) (a .bytes .now) (c .before .before .before .before .before .before .pre)) (c .before .before .before .before .before .before .pre)
+    (length-xor old bs ∙ length-lent (a .at) (length bs) (a .bytes .now) (start .pre)) (start .pre)
 
 pub xor-at-spec : {M : Type 1} → statement M
 xor-at-spec =

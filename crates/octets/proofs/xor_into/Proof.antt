@@ -1,6 +1,6 @@
 -- `octets::xor_into` meets its contract. The invariant: the bytes before i are those of the result. Assumes nothing.
 use Prim.Native.Nat.{_-_, _≤_}
-use mathlib.Core.Path.{_≡_, sym, ap, _∙_}
+use mathlib.Core.Path.{sym, ap, _∙_}
 use native.Mathlib.Omega.{arith}
 use lib.ListN.{length, getD}
 use lib.Bits.{bitXor}
@@ -59,7 +59,8 @@ returns c =
     let i = at .loop .i in
     let old = s .args .bytes .now in
     let bs = s .args .«data» .now in
-    let past = rest-at (length old) (length bs) (at .before .least .result) i (at .before .least .ensures .2) (omega arith) in
+    let least = at .before .least in
+    let past = rest-at (length old) (length bs) (least .result) i (least .ensures .2) (omega arith) in
     walk-end _ _ _ i (xor-rest i old bs past) (at .loop .inv .1)
 
 pub xor-into-spec : {M : Type 1} → statement M

@@ -22,7 +22,8 @@ returns-2 c =
 returns-3 : tie.Need-returns-3
 unfolding flag
 returns-3 c =
-    sym (leaves 9 _ _ (within _ _ (c .before .before .if1 .left)) ∙ leaves 10 _ _ (ne-eqb _ _ (c .if2 .left)) ∙ none-applies)
+    sym (leaves 9 _ _ (within _ _ (c .before .before .if1 .left)) ∙ leaves 10 _ _ (ne-eqb _ _ (c .if2 .left))
+    ∙ none-applies)
 
 pub judge-flag-spec : {M : Type 1} → statement M
 judge-flag-spec = tie.close (tie.spec returns shared-slice-read-if2 returns-2 returns-3)

@@ -2,11 +2,11 @@
 use mathlib.Core.Path.{sym, ap, _∙_}
 use mathlib.Core.Bool.{not}
 use native.Mathlib.Omega.{arith}
-use Rattle.rules.proofs.Tests.{gives, leaves, none-applies}
+use Rattle.rules.proofs.Tests.{gives, leaves, none-applies, first-gives, first-leaves}
 use Rattle.rules.specs.Bytes.{same}
 use Rattle.rules.specs.State.{pin}
 use Rattle.rules.specs.Answers.{refusalOf}
-use Rattle.registers.proofs.Laws.{index-within, two-refuse, two-held}
+use Rattle.registers.proofs.Laws.{index-within}
 use borrow.Author.Needs.{needs}
 use Rattle.registers.proofs.judge_response.Statement.{statement}
 use Rattle.registers.proofs.judge_response.Tie as tie
@@ -20,7 +20,7 @@ enum-known-held c = search needs
 returns : tie.Need-returns
 returns c =
     let at = c .before in
-    sym (two-refuse 9 10 _ _ _ _ (sym (at .before .before .judge-flag .ensures) ∙ ap refusalOf (at .held .given .1)))
+    sym (first-gives _ _ _ (sym (at .before .before .judge-flag .ensures) ∙ ap refusalOf (at .held .given .1)))
 
 enum-told : tie.Need-enum-told
 enum-told c = search needs
@@ -56,7 +56,7 @@ returns-2 c =
     let told = at .before in
     let held = sym (told .before .before .judge-flag .ensures) ∙ ap refusalOf (told .enum-told .given .1) in
     let equal = sym (ap (same _) (at .response .ensures)) ∙ sym (c .before .equal .ensures) ∙ c .if1 .taken in
-    sym (two-held 9 10 _ _ _ held ∙ leaves 11 _ _ (ap not equal) ∙ none-applies)
+    sym (first-leaves _ _ held ∙ leaves 11 _ _ (ap not equal) ∙ none-applies)
 
 returns-3 : tie.Need-returns-3
 unfolding pin
@@ -65,7 +65,7 @@ returns-3 c =
     let told = at .before in
     let held = sym (told .before .before .judge-flag .ensures) ∙ ap refusalOf (told .enum-told .given .1) in
     let equal = sym (ap (same _) (at .response .ensures)) ∙ sym (c .before .equal .ensures) ∙ c .if1 .left in
-    sym (two-held 9 10 _ _ _ held ∙ gives 11 _ _ (ap not equal))
+    sym (first-leaves _ _ held ∙ gives 11 _ _ (ap not equal))
 
 pub judge-response-spec : {M : Type 1} → statement M
 judge-response-spec =

@@ -5,6 +5,7 @@ use Rattle.rules.specs.Map.{unitAt}
 use Rattle.rules.specs.Answers.{refusalOf}
 use Rattle.rules.proofs.MapLaws.{sizes}
 use Rattle.tag.specs.Verdict.{moveAnswer}
+use Rattle.tag.proofs.UnitLaws.{unit-length}
 use Rattle.tag.proofs.ReadLaws.{unit-counted, unit-lent, advance-outside}
 use Rattle.tag.proofs.ReadLaws.{advance-judged, advance-refused, advance-moves}
 use borrow.Author.Needs.{needs}
@@ -23,32 +24,8 @@ returns c =
     let refused = advance-outside _ _ _ _ (at .pre) (c .before .segments .ensures) (c .if1 .taken) in
     (sym refused, advance-refused _ _ _ _ refused)
 
-mul-start : tie.Need-mul-start
-mul-start c =
-    let at = c .before .before .before .before in
-    let there = unit-counted _ _ _ (at .pre) (c .before .segments .ensures) (c .if1 .left) in
-    omega arith
-
-add-start : tie.Need-add-start
-add-start c =
-    let at = c .before .before .before .before in
-    let there = unit-counted _ _ _ (at .pre) (c .before .segments .ensures) (c .if1 .left) in
-    omega arith
-
-add-end : tie.Need-add-end
-add-end c =
-    let at = c .before .before .before .before in
-    let there = unit-counted _ _ _ (at .pre) (c .before .segments .ensures) (c .if1 .left) in
-    omega arith
-
-sub-judge-advance : tie.Need-sub-judge-advance
-sub-judge-advance c = search needs
-
-part-judge-advance-start : tie.Need-part-judge-advance-start
-part-judge-advance-start c = search needs
-
-part-judge-advance-end : tie.Need-part-judge-advance-end
-part-judge-advance-end c =
+unit-of-requires : tie.Need-unit-of-requires
+unit-of-requires c κs =
     let at = c .before .before in
     unit-counted _ _ _ (at .before .before .before .before .pre) (at .before .segments .ensures) (at .if1 .left) .inside
 
@@ -56,10 +33,35 @@ slice-aggregate-judge-advance : tie.Need-slice-aggregate-judge-advance
 slice-aggregate-judge-advance c = search needs
 
 judge-advance-requires : tie.Need-judge-advance-requires
-judge-advance-requires c κs = search needs
+judge-advance-requires c κs =
+    let at = c .before .before .before .before in
+    let start = at .before .before .before .before in
+    let there = unit-counted _ _ _ (start .pre) (at .before .segments .ensures) (at .if1 .left) in
+    unit-length _ _ _ (c .before .unit-of .ensures) (there .inside)
 
 enum-known-stage : tie.Need-enum-known-stage
 enum-known-stage c = search needs
+
+mul-start : tie.Need-mul-start
+mul-start c =
+    let at = c .before .before .before .before .before .before .before .before in
+    let start = at .before .before .before .before in
+    let there = unit-counted _ _ _ (start .pre) (at .before .segments .ensures) (at .if1 .left) in
+    omega arith
+
+add-start : tie.Need-add-start
+add-start c =
+    let at = c .before .before .before .before .before .before .before .before in
+    let start = at .before .before .before .before in
+    let there = unit-counted _ _ _ (start .pre) (at .before .segments .ensures) (at .if1 .left) in
+    omega arith
+
+add-end : tie.Need-add-end
+add-end c =
+    let at = c .before .before .before .before .before .before .before .before in
+    let start = at .before .before .before .before in
+    let there = unit-counted _ _ _ (start .pre) (at .before .segments .ensures) (at .if1 .left) in
+    omega arith
 
 sub-advance : tie.Need-sub-advance
 sub-advance c = search needs
@@ -70,7 +72,9 @@ part-advance-start c = search needs
 part-advance-end : tie.Need-part-advance-end
 part-advance-end c =
     let at = c .before .before .before .before .before .before .before .before in
-    unit-counted _ _ _ (at .before .before .before .before .pre) (at .before .segments .ensures) (at .if1 .left) .inside
+    let start = at .before .before .before .before in
+    let there = unit-counted _ _ _ (start .pre) (at .before .segments .ensures) (at .if1 .left) in
+    there .inside
 
 advance-requires : tie.Need-advance-requires
 advance-requires c κs = search needs
@@ -84,20 +88,21 @@ same-length-2 c = search needs
 returns-2 : tie.Need-returns-2
 returns-2 c =
     let judged = c .before .before .before .before .before .before .before in
-    let at = judged .before .before .before .before .before in
+    let unit = judged .before .before in
+    let at = unit .before .before .before in
     let start = at .before .before .before .before in
     let t = start .args .tag .now in
     let k = start .args .segment in
     let there = unit-counted t k _ (start .pre) (at .before .segments .ensures) (at .if1 .left) in
-    let lent = unit-lent t k in
     let told = c .before .before .before .before .before .stage .given .1 in
-    let number = advance-judged _ _ k _ _ (start .pre) (there .among) lent (judged .judge-advance .ensures) in
+    let read = unit .unit-of .ensures in
+    let number = advance-judged _ _ k _ _ (start .pre) (there .among) read (judged .judge-advance .ensures) in
     let none = sym number ∙ ap (λ v. refusalOf (moveAnswer v)) told in
-    let model = rw lent at (judged .judge-advance .ensures .granted _ told) in
+    let model = rw read at (judged .judge-advance .ensures .granted _ told) in
     let byte = at .before .before .before .slice-known .given (unitAt k) in (
       sym none,
       advance-moves _ _ k _ _ (start .pre) (there .among) none model (omega (arith, byte))
-          (rw lent at (c .before .before .advance .ensures)),
+          (rw (unit-lent t k) at (c .before .before .advance .ensures)),
     )
 
 same-length-3 : tie.Need-same-length-3
@@ -106,13 +111,12 @@ same-length-3 c = search needs
 returns-3 : tie.Need-returns-3
 returns-3 c =
     let judged = c .before .before .before in
-    let at = judged .before .before .before .before .before in
+    let unit = judged .before .before in
+    let at = unit .before .before .before in
     let start = at .before .before .before .before in
-    let t = start .args .tag .now in
-    let k = start .args .segment in
-    let there = unit-counted t k _ (start .pre) (at .before .segments .ensures) (at .if1 .left) in
-    let lent = unit-lent t k in
-    let number = advance-judged _ _ k _ _ (start .pre) (there .among) lent (judged .judge-advance .ensures) in
+    let there = unit-counted _ _ _ (start .pre) (at .before .segments .ensures) (at .if1 .left) in
+    let number =
+    advance-judged _ _ _ _ _ (start .pre) (there .among) (unit .unit-of .ensures) (judged .judge-advance .ensures) in
     let refused = sym number ∙ ap (λ v. refusalOf (moveAnswer v)) (c .before .r .given .1) in
     (sym refused, advance-refused _ _ _ _ refused)
 
@@ -123,15 +127,13 @@ advance-sound-spec =
     segments-requires
     same-length
     returns
-    mul-start
-    add-start
-    add-end
-    sub-judge-advance
-    part-judge-advance-start
-    part-judge-advance-end
+    unit-of-requires
     slice-aggregate-judge-advance
     judge-advance-requires
     enum-known-stage
+    mul-start
+    add-start
+    add-end
     sub-advance
     part-advance-start
     part-advance-end

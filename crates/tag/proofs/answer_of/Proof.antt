@@ -1,5 +1,5 @@
 -- `tag::answer_of` meets its contract. Assumes nothing.
-use mathlib.Core.Path.{_≡_, ap, sym}
+use mathlib.Core.Path.{ap, sym}
 use Rattle.tag.specs.Verdict.{answerOf}
 use Rattle.tag.proofs.ActLaws.{answer-done}
 use borrow.Author.Needs.{needs}

@@ -1,5 +1,5 @@
 -- `tag::carry_out` meets its contract, arm by arm. Assumes nothing.
-use mathlib.Core.Path.{_≡_, ap, sym, subst, _∙_}
+use mathlib.Core.Path.{ap, sym, subst, _∙_}
 use mathlib.Core.List.{[], _∷_}
 use native.Mathlib.Omega.{arith}
 use Rattle.octets.proofs.Laws.{set-put}
@@ -15,38 +15,50 @@ enum-told c = search needs
 
 store-at-requires : tie.Need-store-at-requires
 store-at-requires c κs =
-    subst (Fits (c .before .before .before .before .before .args .tag .now) (c .before .before .before .before .before .args .at) (c .before .before .before .before .before .args .«data» .now)) (c .before .enum-told .given .1) (c .before .before .before .before .before .pre .1)
+    let at = c .before .before .before .before .before in
+    let told = c .before .enum-told .given .1 in
+    subst (Fits (at .args .tag .now) (at .args .at) (at .args .«data» .now)) told (at .pre .1)
 
 enum-told-2 : tie.Need-enum-told-2
 enum-told-2 c = search needs
 
 xor-at-requires : tie.Need-xor-at-requires
 xor-at-requires c κs =
-    subst (Fits (c .before .before .before .before .before .args .tag .now) (c .before .before .before .before .before .args .at) (c .before .before .before .before .before .args .«data» .now)) (c .before .enum-told2 .given .1) (c .before .before .before .before .before .pre .1)
+    let at = c .before .before .before .before .before in
+    let told = c .before .enum-told2 .given .1 in
+    subst (Fits (at .args .tag .now) (at .args .at) (at .args .«data» .now)) told (at .pre .1)
 
 enum-known-verdict : tie.Need-enum-known-verdict
 enum-known-verdict c = search needs
 
 mul-store-once : tie.Need-mul-store-once
 mul-store-once c =
-    let f = subst (Fits (c .before .before .before .before .before .before .args .tag .now) (c .before .before .before .before .before .before .args .at) (c .before .before .before .before .before .before .args .«data» .now)) (c .before .before .verdict .given .1) (c .before .before .before .before .before .before .pre .1) in
+    let at = c .before .before .before .before .before .before in
+    let told = c .before .before .verdict .given .1 in
+    let f = subst (Fits (at .args .tag .now) (at .args .at) (at .args .«data» .now)) told (at .pre .1) in
     omega arith
 
 add-store-once : tie.Need-add-store-once
 add-store-once c =
-    let f = subst (Fits (c .before .before .before .before .before .before .args .tag .now) (c .before .before .before .before .before .before .args .at) (c .before .before .before .before .before .before .args .«data» .now)) (c .before .before .verdict .given .1) (c .before .before .before .before .before .before .pre .1) in
+    let at = c .before .before .before .before .before .before in
+    let told = c .before .before .verdict .given .1 in
+    let f = subst (Fits (at .args .tag .now) (at .args .at) (at .args .«data» .now)) told (at .pre .1) in
     omega arith
 
 store-once-requires : tie.Need-store-once-requires
 store-once-requires c κs =
-    subst (Fits (c .before .before .before .before .before .before .args .tag .now) (c .before .before .before .before .before .before .args .at) (c .before .before .before .before .before .before .args .«data» .now)) (c .before .before .verdict .given .1) (c .before .before .before .before .before .before .pre .1)
+    let at = c .before .before .before .before .before .before in
+    let told = c .before .before .verdict .given .1 in
+    subst (Fits (at .args .tag .now) (at .args .at) (at .args .«data» .now)) told (at .pre .1)
 
 enum-told-3 : tie.Need-enum-told-3
 enum-told-3 c = search needs
 
 store-at-requires-2 : tie.Need-store-at-requires-2
 store-at-requires-2 c κs =
-    subst (Fits (c .before .before .before .before .before .args .tag .now) (c .before .before .before .before .before .args .at) (c .before .before .before .before .before .args .«data» .now)) (c .before .enum-told3 .given .1) (c .before .before .before .before .before .pre .1)
+    let at = c .before .before .before .before .before in
+    let told = c .before .enum-told3 .given .1 in
+    subst (Fits (at .args .tag .now) (at .args .at) (at .args .«data» .now)) told (at .pre .1)
 
 slice-write-tag : tie.Need-slice-write-tag
 slice-write-tag c = search needs
@@ -67,7 +79,10 @@ returns : tie.Need-returns
 unfolding storesBy apply
 returns c =
     let s = c .before .before .before .before .before .before .before .before .args in
-    c .before .before .store-at .ensures ∙ sym (ap (λ v. apply (storesBy v (s .tag .now) (s .at) (s .«data» .now)) (s .tag .now)) (c .before .before .before .before .enum-told .given .1))
+    let t = s .tag .now in
+    let told = c .before .before .before .before .enum-told .given .1 in
+    c .before .before .store-at .ensures
+    ∙ sym (ap (λ v. apply (storesBy v t (s .at) (s .«data» .now)) t) told)
 
 same-length-2 : tie.Need-same-length-2
 same-length-2 c = search needs
@@ -76,7 +91,10 @@ returns-2 : tie.Need-returns-2
 unfolding storesBy apply
 returns-2 c =
     let s = c .before .before .before .before .before .before .before .before .args in
-    c .before .before .xor-at .ensures ∙ sym (ap (λ v. apply (storesBy v (s .tag .now) (s .at) (s .«data» .now)) (s .tag .now)) (c .before .before .before .before .enum-told2 .given .1))
+    let t = s .tag .now in
+    let told = c .before .before .before .before .enum-told2 .given .1 in
+    c .before .before .xor-at .ensures
+    ∙ sym (ap (λ v. apply (storesBy v t (s .at) (s .«data» .now)) t) told)
 
 same-length-3 : tie.Need-same-length-3
 same-length-3 c = search needs
@@ -85,7 +103,10 @@ returns-3 : tie.Need-returns-3
 unfolding storesBy apply
 returns-3 c =
     let s = c .before .before .before .before .before .before .before .before .before .args in
-    c .before .before .store-once .ensures ∙ sym (ap (λ v. apply (storesBy v (s .tag .now) (s .at) (s .«data» .now)) (s .tag .now)) (c .before .before .before .before .before .verdict .given .1))
+    let t = s .tag .now in
+    let told = c .before .before .before .before .before .verdict .given .1 in
+    c .before .before .store-once .ensures
+    ∙ sym (ap (λ v. apply (storesBy v t (s .at) (s .«data» .now)) t) told)
 
 same-length-4 : tie.Need-same-length-4
 same-length-4 c = search needs
@@ -94,7 +115,11 @@ returns-4 : tie.Need-returns-4
 unfolding storesBy apply
 returns-4 c =
     let s = c .before .before .before .before .before .before .before .before .args in
-    set-put 12 0 _ ∙ ap (put 12 (0 ∷ [])) (c .before .before .store-at2 .ensures) ∙ sym (ap (λ v. apply (storesBy v (s .tag .now) (s .at) (s .«data» .now)) (s .tag .now)) (c .before .before .before .before .enum-told3 .given .1))
+    let t = s .tag .now in
+    let told = c .before .before .before .before .enum-told3 .given .1 in
+    set-put 12 0 _
+    ∙ ap (put 12 (0 ∷ [])) (c .before .before .store-at2 .ensures)
+    ∙ sym (ap (λ v. apply (storesBy v t (s .at) (s .«data» .now)) t) told)
 
 returns-5 : tie.Need-returns-5
 unfolding storesBy apply
@@ -109,7 +134,10 @@ returns-6 : tie.Need-returns-6
 unfolding storesBy apply
 returns-6 c =
     let s = c .before .before .before .before .before .before .before .before .before .args in
-    c .before .before .note-refusal .ensures ∙ sym (ap (λ v. apply (storesBy v (s .tag .now) (s .at) (s .«data» .now)) (s .tag .now)) (c .before .before .before .before .before .verdict2 .given .1))
+    let t = s .tag .now in
+    let told = c .before .before .before .before .before .verdict2 .given .1 in
+    c .before .before .note-refusal .ensures
+    ∙ sym (ap (λ v. apply (storesBy v t (s .at) (s .«data» .now)) t) told)
 
 pub carry-out-spec : {M : Type 1} → statement M
 carry-out-spec =

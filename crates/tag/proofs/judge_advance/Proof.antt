@@ -1,13 +1,14 @@
 -- `tag::judge_advance` meets its contract: test by test. Assumes nothing.
 use mathlib.Core.Path.{sym, ap, _∙_}
+use Rattle.rules.proofs.Tests.{first-gives, first-leaves}
 use Rattle.rules.specs.declared.Refusal.the-variants.{Malformed}
 use Rattle.rules.specs.Bytes.{part}
 use Rattle.rules.specs.Units.{nameOf}
 use Rattle.rules.specs.Answers.{refusalOf}
 use Rattle.rules.specs.Refusals.{advanceChecks}
 use Rattle.units.proofs.Laws.{decoded-whole}
-use Rattle.tag.proofs.Laws.{rights-refuse, rights-held}
-use Rattle.tag.proofs.ReadLaws.{formless, move-refuses, move-judged, advance-by}
+use Rattle.tag.proofs.UnitLaws.{formless}
+use Rattle.tag.proofs.ReadLaws.{move-refuses, move-judged, advance-by}
 use borrow.Author.Needs.{needs}
 use Rattle.tag.proofs.judge_advance.Statement.{statement}
 use Rattle.tag.proofs.judge_advance.Tie as tie
@@ -52,7 +53,7 @@ returns-2 c =
     let told = equal .before .before .before in
     let whole = sym (told .before .before .decode .ensures) ∙ told .u .given .1 in
     let refused = sym (at .judge-rights .ensures) ∙ ap refusalOf (c .before .held .given .1) in
-    move-refuses _ _ _ (advance-by _ _ _ _ _ whole (equal .equal .ensures) ∙ rights-refuse _ _ _ _ _ refused)
+    move-refuses _ _ _ (advance-by _ _ _ _ _ whole (equal .equal .ensures) ∙ first-gives _ _ _ refused)
 
 enum-told-2 : tie.Need-enum-told-2
 enum-told-2 c = search needs
@@ -68,7 +69,7 @@ returns-3 c =
     let told = equal .before .before .before in
     let whole = sym (told .before .before .decode .ensures) ∙ told .u .given .1 in
     let held = sym (at .judge-rights .ensures) ∙ ap refusalOf (c .before .enum-told2 .given .1) in
-    move-judged _ _ _ _ _ (advance-by _ _ _ _ _ whole (equal .equal .ensures) ∙ rights-held _ _ _ _ held)
+    move-judged _ _ _ _ _ (advance-by _ _ _ _ _ whole (equal .equal .ensures) ∙ first-leaves _ _ held)
     (ap (λ u. u .model) (sym (decoded-whole _ _ whole .1))) (c .judge-stage .ensures)
 
 pub judge-advance-spec : {M : Type 1} → statement M

@@ -10,7 +10,8 @@ use Rattle.rules.specs.declared.Unit.{Unit}
 use Rattle.rules.specs.Refusals.{lowest, _when_else_, granted, editAllowed, editChecks}
 use Rattle.units.specs.declared.Decoded.the-variants.{Unit as Whole}
 use Rattle.units.specs.Decoded.{decoded}
-use Rattle.units.proofs.Laws.{decoded-whole, decoded-malformed}
+use Rattle.units.proofs.Laws.{decoded-whole}
+use Rattle.tag.proofs.UnitLaws.{formless, formed}
 use borrow.Author.Needs.{needs}
 use Rattle.tag.proofs.judge_edit.Statement.{statement}
 use Rattle.tag.proofs.judge_edit.Tie as tie
@@ -20,7 +21,7 @@ checks-of : (edit : ℕ) (u w : List ℕ) (x : Unit) → decoded u ≡ Whole x
     → lowest (editChecks edit u w)
     ≡ lowest (6 when x .ne else 7 when not (eqb edit (x .edit)) else 13 when not (editAllowed u w) else granted)
 unfolding editChecks
-checks-of edit u w x e = let d = decoded-whole u x e in leaves 5 _ _ (ap not (d .0)) ∙ rw (d .1)
+checks-of edit u w x e = formed u x _ e ∙ rw (decoded-whole u x e .1)
 
 -- where the unit may be edited, the result decides
 result-decides : (edit : ℕ) (u w : List ℕ) (x : Unit) → decoded u ≡ Whole x → x .ne ≡ false → edit ≡ x .edit
@@ -38,8 +39,7 @@ enum-told c = search needs
 
 returns : tie.Need-returns
 unfolding editChecks
-returns c =
-    sym (gives 5 _ _ (ap not (decoded-malformed _ (sym (c .before .before .decode .ensures) ∙ c .enum-told .given .1))))
+returns c = sym (formless _ _ (sym (c .before .before .decode .ensures) ∙ c .enum-told .given .1))
 
 returns-2 : tie.Need-returns-2
 returns-2 c =

@@ -3,7 +3,8 @@ use mathlib.Core.Path.{sym, _∙_}
 use Rattle.rules.specs.Bytes.{part}
 use Rattle.rules.specs.Units.{nameOf}
 use Rattle.rules.specs.Refusals.{segmentReadChecks}
-use Rattle.tag.proofs.ReadLaws.{formless, segment-read-by}
+use Rattle.tag.proofs.UnitLaws.{formless}
+use Rattle.tag.proofs.ReadLaws.{segment-read-by}
 use borrow.Author.Needs.{needs}
 use Rattle.tag.proofs.judge_segment_read.Statement.{statement}
 use Rattle.tag.proofs.judge_segment_read.Tie as tie

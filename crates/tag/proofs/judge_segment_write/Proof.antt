@@ -4,7 +4,7 @@ use mathlib.Core.Path.{_≡_, sym, ap, _∙_}
 use mathlib.Core.Bool.{Bool, _&&_, not}
 use mathlib.Core.List.{List}
 use lib.Dec.{eqb}
-use Rattle.rules.proofs.Tests.{gives, leaves}
+use Rattle.rules.proofs.Tests.{first-gives, first-leaves}
 use Rattle.rules.specs.declared.Refusal.the-variants.{Malformed}
 use Rattle.rules.specs.declared.Unit.{Unit}
 use Rattle.rules.specs.Bytes.{part, same}
@@ -13,8 +13,9 @@ use Rattle.rules.specs.Answers.{refusalOf}
 use Rattle.rules.specs.Refusals.{lowest, _when_else_, granted, slotRefuses, segmentWriteChecks}
 use Rattle.units.specs.declared.Decoded.the-variants.{Unit as Whole}
 use Rattle.units.specs.Decoded.{decoded}
-use Rattle.units.proofs.Laws.{decoded-whole, decoded-malformed}
-use Rattle.tag.proofs.Laws.{refuses, rights-refuse, rights-held}
+use Rattle.units.proofs.Laws.{decoded-whole}
+use Rattle.tag.proofs.Laws.{refuses}
+use Rattle.tag.proofs.UnitLaws.{formless, formed}
 use Rattle.tag.proofs.WriteLaws.{judged-as}
 use borrow.Author.Needs.{needs}
 use Rattle.tag.proofs.judge_segment_write.Statement.{statement}
@@ -27,7 +28,7 @@ checks-of : (write : ℕ) (name u : List ℕ) (o : ℕ) (old bs : List ℕ) (x :
     ≡ lowest (6 when not (x .wr) else 7 when x .wrpin && not (eqb write (x .write)) else 8 when x .pn && not b else
     12 when slotRefuses (x .model) o old bs else granted)
 unfolding segmentWriteChecks
-checks-of write name u o old bs x b e f = let d = decoded-whole u x e in leaves 5 _ _ (ap not (d .0)) ∙ rw (d .1, f)
+checks-of write name u o old bs x b e f = formed u x _ e ∙ rw (decoded-whole u x e .1, f)
 
 decode-requires : tie.Need-decode-requires
 decode-requires c κs = search needs
@@ -41,8 +42,7 @@ enum-told c = search needs
 returns : tie.Need-returns
 unfolding segmentWriteChecks
 returns c =
-    refuses _ _ Malformed
-    (gives 5 _ _ (ap not (decoded-malformed _ (sym (c .before .before .decode .ensures) ∙ c .enum-told .given .1))))
+    refuses _ _ Malformed (formless _ _ (sym (c .before .before .decode .ensures) ∙ c .enum-told .given .1))
 
 sub-equal : tie.Need-sub-equal
 sub-equal c = search needs
@@ -69,7 +69,7 @@ returns-2 c =
     let unit = name .before .before .before in
     refuses _ _ _
     (checks-of _ _ _ _ _ _ _ _ (sym (unit .before .before .decode .ensures) ∙ unit .u .given .1) (name .equal .ensures)
-    ∙ rights-refuse _ _ _ _ _
+    ∙ first-gives _ _ _
     (sym (c .before .before .before .judge-rights .ensures) ∙ ap refusalOf (c .before .held .given .1)))
 
 enum-told-2 : tie.Need-enum-told-2
@@ -89,7 +89,7 @@ returns-3 c =
     rw (sym (decoded-whole _ _ whole .1))
     (judged-as _ _ _ _
     (sym (checks-of _ _ _ _ _ _ _ _ whole (name .equal .ensures)
-    ∙ rights-held _ _ _ _
+    ∙ first-leaves _ _
     (sym (c .before .before .before .judge-rights .ensures) ∙ ap refusalOf (c .before .enum-told2 .given .1))))
     (c .judge-model .ensures))
 

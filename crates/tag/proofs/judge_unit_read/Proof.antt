@@ -2,7 +2,8 @@
 use mathlib.Core.Path.{sym, _∙_}
 use Rattle.rules.proofs.Tests.{gives, leaves, none-applies}
 use Rattle.rules.specs.Refusals.{unitReadChecks}
-use Rattle.tag.proofs.ReadLaws.{formless, unit-read-by}
+use Rattle.tag.proofs.UnitLaws.{formless}
+use Rattle.tag.proofs.ReadLaws.{unit-read-by}
 use borrow.Author.Needs.{needs}
 use Rattle.tag.proofs.judge_unit_read.Statement.{statement}
 use Rattle.tag.proofs.judge_unit_read.Tie as tie

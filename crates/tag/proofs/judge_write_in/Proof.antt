@@ -2,7 +2,6 @@
 use Prim.Native.Nat.{ℕ}
 use mathlib.Core.Path.{_≡_, refl, sym, ap, _∙_}
 use mathlib.Core.List.{List, [], _∷_}
-use mathlib.Core.Option.{some}
 use native.Mathlib.Omega.{arith}
 use types.Run.{OneOf, miss}
 use denote.Enum.Declared.{tagOf}
@@ -16,7 +15,8 @@ use Rattle.rules.proofs.Place as the-place
 use Rattle.rules.proofs.MapLaws.{sizes}
 use Rattle.tag.specs.Verdict.{actIn}
 use Rattle.tag.proofs.Laws.{refuses, acts, judged}
-use Rattle.tag.proofs.WriteLaws.{judged-as, unit-inside, segment-inside, checks-at}
+use Rattle.tag.proofs.UnitLaws.{unit-found, segment-found}
+use Rattle.tag.proofs.WriteLaws.{judged-as, checks-at}
 use borrow.Author.Needs.{needs}
 use Rattle.tag.proofs.judge_write_in.Statement.{statement}
 use Rattle.tag.proofs.judge_write_in.Tie as tie
@@ -59,7 +59,8 @@ enum-known-place-2 c = search needs
 judge-edit-at-requires : tie.Need-judge-edit-at-requires
 judge-edit-at-requires c κs =
     let start = c .before .before .before .before .before in
-    unit-inside _ _ _ _ (start .pre .0) (start .pre .1 ∙ ap some (c .before .place2 .given .1))
+    let found = unit-found _ _ _ _ _ (start .pre .0) (start .pre .1) (c .before .place2 .given .1) in
+    (found .1, found .2, found .0 .inside)
 
 verdict-of-requires-3 : tie.Need-verdict-of-requires-3
 verdict-of-requires-3 c κs = search needs
@@ -70,8 +71,8 @@ enum-known-place-3 c = search needs
 judge-segment-at-requires : tie.Need-judge-segment-at-requires
 judge-segment-at-requires c κs =
     let start = c .before .before .before .before .before in
-    let inside = segment-inside _ _ _ _ (start .pre .0) (start .pre .1 ∙ ap some (c .before .place3 .given .1)) in
-    (inside .1, inside .2)
+    let found = segment-found _ _ _ _ _ (start .pre .0) (start .pre .1) (c .before .place3 .given .1) in
+    (found .2, found .0 .inside)
 
 enum-told-2 : tie.Need-enum-told-2
 enum-told-2 c = search needs
@@ -99,9 +100,9 @@ unfolding writeChecks actIn
 returns-4 c =
     let at = c .before .before in
     let start = at .before .before .before .before in
-    let inside = segment-inside _ _ _ _ (start .pre .0) (start .pre .1 ∙ ap some (at .place3 .given .1)) in
+    let found = segment-found _ _ _ _ _ (start .pre .0) (start .pre .1) (at .place3 .given .1) in
     rw (at .place3 .given .1)
-    (judged-as _ _ _ _ (ap lowest (sym (checks-at _ _ _ _ _ _ _ _ (inside .0)))) (c .judge-segment-at .ensures))
+    (judged-as _ _ _ _ (ap lowest (sym (checks-at _ _ _ _ _ _ _ _ (found .1)))) (c .judge-segment-at .ensures))
 
 returns-5 : tie.Need-returns-5
 unfolding writeChecks actIn

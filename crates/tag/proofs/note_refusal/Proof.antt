@@ -1,5 +1,5 @@
 -- `tag::note_refusal` meets its contract. Assumes nothing.
-use mathlib.Core.Path.{_≡_, ap, sym, _∙_}
+use mathlib.Core.Path.{ap, sym, _∙_}
 use Rattle.octets.proofs.Laws.{set-put}
 use Rattle.rules.specs.Answers.{numberOf}
 use Rattle.rules.specs.Effects.{apply, refusalStores}

@@ -1,5 +1,5 @@
 -- `tag::store_once` meets its contract. Assumes nothing.
-use mathlib.Core.Path.{_≡_, ap₂, _∙_}
+use mathlib.Core.Path.{ap₂, _∙_}
 use mathlib.Core.List.{[], _∷_}
 use Rattle.octets.proofs.Laws.{set-put}
 use Rattle.rules.specs.Bytes.{put}
@@ -25,7 +25,9 @@ same-length c = search needs
 returns : tie.Need-returns
 returns c =
     let i = c .before .before .before .before .before .before .before .before .args .unit in
-    set-put i _ _ ∙ ap₂ (λ v t. put i (v ∷ []) t) (c .before .before .before .before .read-only .ensures) (c .before .before .store-at .ensures)
+    let stored = c .before .before in
+    set-put i _ _
+    ∙ ap₂ (λ v t. put i (v ∷ []) t) (stored .before .before .read-only .ensures) (stored .store-at .ensures)
 
 pub store-once-spec : {M : Type 1} → statement M
 store-once-spec =

@@ -1,0 +1,32 @@
+-- `layout::unit_of` meets its contract. Assumes nothing.
+use borrow.Author.Needs.{needs}
+use Rattle.rules.specs.Units.{unitBytes}
+use Rattle.octets.proofs.Laws.{part-lent}
+use Rattle.layout.proofs.unit_of.Statement.{statement}
+use Rattle.layout.proofs.unit_of.Tie as tie
+
+mul-start : tie.Need-mul-start
+mul-start c = search needs
+
+add-start : tie.Need-add-start
+add-start c = search needs
+
+add-end : tie.Need-add-end
+add-end c = search needs
+
+sub-result : tie.Need-sub-result
+sub-result c = search needs
+
+part-result-start : tie.Need-part-result-start
+part-result-start c = search needs
+
+part-result-end : tie.Need-part-result-end
+part-result-end c = search needs
+
+returns : tie.Need-returns
+unfolding unitBytes
+returns c = part-lent _ 32 _
+
+pub unit-of-spec : {M : Type 1} → statement M
+unit-of-spec =
+    tie.close (tie.spec mul-start add-start add-end sub-result part-result-start part-result-end returns)
