@@ -24,7 +24,7 @@ use Rattle.rules.specs.Map.{flag, pinAt}
 use Rattle.rules.specs.State.{state, pinIndex, ownerIndex, guard, pin, owner, response, withRead, withWrite, withEdit, withName, withId, withPa}
 use Rattle.rules.specs.Refusals.{Checks, _when_else_, granted, lowest, registerChecks, responseChecks, nameChecks, commitChecks, plainChecks}
 use Rattle.rules.specs.Effects.{apply, registerStores, registerSession}
-use Rattle.rules.proofs.Tests.{true-false, passes, or-false, gives, leaves, none-applies}
+use Rattle.rules.proofs.Tests.{passes, or-false, gives, leaves, none-applies, joined-three}
 use Rattle.octets.proofs.Laws.{part-lent, length-lent, put-whole, set-put}
 use Rattle.xxtea.specs.Block.{E}
 use Rattle.registers.specs.Registers.{pinChecks, guardChecks, Taken}
@@ -68,28 +68,12 @@ past a b = by (leb a b) refl
     by true e = le-ltb b a (leb-true a b e)
     by false e = lt-ltb b a (leb-false a b e)
 
-one-of-three : (n : ℕ) (a b c : Bool) (cs : Checks) → ((a || b) || c) ≡ true
-    → lowest (n when a else n when b else n when c else cs) ≡ some n
-unfolding lowest
-one-of-three n true b c cs e = refl
-one-of-three n false true c cs e = refl
-one-of-three n false false true cs e = refl
-one-of-three n false false false cs e = true-false (sym e)
-
-none-of-three : (n : ℕ) (a b c : Bool) (cs : Checks) → ((a || b) || c) ≡ false
-    → lowest (n when a else n when b else n when c else cs) ≡ lowest cs
-unfolding lowest
-none-of-three n true b c cs e = true-false e
-none-of-three n false true c cs e = true-false e
-none-of-three n false false true cs e = true-false e
-none-of-three n false false false cs e = refl
-
 module _ (t pa bs : List ℕ) (p o : ℕ)
     (pin-read : p ≡ number (part 0 2 pa)) (owner-read : o ≡ number (part 2 2 pa)) where
   pub indexes-refuse : ((ltb 255 p || eqb p 0) || ltb 3 o) ≡ true → lowest (guardChecks t pa bs) ≡ some 9
   indexes-refuse e =
       rw (← pin-read, ← owner-read)
-      (one-of-three 9 (not (leb p 255)) (eqb p 0) (not (leb o 3)) _ (rw (← past p 255, ← past o 3) e))
+      (joined-three 9 (not (leb p 255)) (eqb p 0) (not (leb o 3)) _ ∙ gives 9 _ _ (rw (← past p 255, ← past o 3) e))
 
   pub indexes-held : ((ltb 255 p || eqb p 0) || ltb 3 o) ≡ false
       → lowest (guardChecks t pa bs)
@@ -99,7 +83,7 @@ module _ (t pa bs : List ℕ) (p o : ℕ)
       granted)
   indexes-held e =
       rw (← pin-read, ← owner-read)
-      (none-of-three 9 (not (leb p 255)) (eqb p 0) (not (leb o 3)) _ (rw (← past p 255, ← past o 3) e))
+      (joined-three 9 (not (leb p 255)) (eqb p 0) (not (leb o 3)) _ ∙ leaves 9 _ _ (rw (← past p 255, ← past o 3) e))
 
 pub owner-held : (p o : ℕ) → ((ltb 255 p || eqb p 0) || ltb 3 o) ≡ false → o ≤ 3
 owner-held p o e = ltb-false 3 o (or-false (ltb 255 p || eqb p 0) (ltb 3 o) e .1)

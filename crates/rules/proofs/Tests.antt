@@ -1,6 +1,6 @@
 -- Small facts on tests, and on lists of checks: what it means that none of them applies.
 use Prim.Native.Nat.{ℕ}
-use mathlib.Core.Path.{_≡_, refl, sym}
+use mathlib.Core.Path.{_≡_, refl, sym, _∙_}
 use mathlib.Core.Bool.{Bool, true, false, _&&_, _||_}
 use mathlib.Core.List.{List, [], _∷_}
 use mathlib.Core.Option.{none, some}
@@ -65,6 +65,16 @@ pub leaves : (n : ℕ) (b : Bool) (cs : Checks) → b ≡ false → lowest (n wh
 unfolding lowest
 leaves n true cs e = true-false e
 leaves n false cs e = refl
+
+-- two tests with one number are one test
+pub joined : (n : ℕ) (a b : Bool) (cs : Checks) → lowest (n when a else n when b else cs) ≡ lowest (n when a || b else cs)
+unfolding lowest
+joined n true b cs = refl
+joined n false b cs = refl
+
+pub joined-three : (n : ℕ) (a b c : Bool) (cs : Checks)
+    → lowest (n when a else n when b else n when c else cs) ≡ lowest (n when (a || b) || c else cs)
+joined-three n a b c cs = joined n a b (n when c else cs) ∙ joined n (a || b) c cs
 
 pub none-applies : lowest granted ≡ none
 unfolding lowest

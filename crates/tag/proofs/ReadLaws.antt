@@ -34,7 +34,7 @@ use Rattle.rules.specs.Effects.{apply, advanceStores, advanced}
 use Rattle.rules.specs.Command.{read, advance, checks, refusal, inPlace, reply, replyBy, grant, filled}
 use Rattle.rules.specs.Command.{after, afterBy, stores, newSession}
 use Rattle.rules.specs.Claims.{Applies}
-use Rattle.rules.proofs.Tests.{true-false, some-none, or-false, passes, gives, leaves, none-applies}
+use Rattle.rules.proofs.Tests.{true-false, some-none, or-false, passes, gives, leaves, none-applies, joined-three}
 use Rattle.rules.proofs.BytesLaws.{length-put}
 use Rattle.rules.proofs.MapLaws.{sizes}
 use Rattle.rules.proofs.Places.{the-map}
@@ -107,22 +107,6 @@ segment-read-in t v p k a n u e f = rw (e, f)
 abbrev pub miscounted : (n room : ℕ) → Bool
 miscounted n room = (eqb n 0 || ltb 4096 n) || ltb room n
 
-counted : (a b c : Bool) (cs : Checks) → ((a || b) || c) ≡ true
-    → lowest (2 when a else 2 when b else 2 when c else cs) ≡ some 2
-unfolding lowest
-counted true b c cs e = refl
-counted false true c cs e = refl
-counted false false true cs e = refl
-counted false false false cs e = true-false (sym e)
-
-uncounted : (a b c : Bool) (cs : Checks) → ((a || b) || c) ≡ false
-    → lowest (2 when a else 2 when b else 2 when c else cs) ≡ lowest cs
-unfolding lowest
-uncounted true b c cs e = true-false e
-uncounted false true c cs e = true-false e
-uncounted false false true cs e = true-false e
-uncounted false false false cs e = refl
-
 placed-nowhere : (f : Place → Checks) → lowest (inPlace none f) ≡ some 3
 unfolding inPlace
 placed-nowhere f = gives 3 true granted refl
@@ -131,12 +115,12 @@ module _ (E : Cipher) (s : State) (a n room : ℕ) where
   pub read-miscounted : sound (s .tag) ≡ true → miscounted n room ≡ true
       → refusal E s (read a n room) ≡ some 2
   unfolding refusal checks
-  read-miscounted w e = leaves 1 _ _ (ap not w) ∙ counted _ _ _ _ e
+  read-miscounted w e = leaves 1 _ _ (ap not w) ∙ joined-three 2 _ _ _ _ ∙ gives 2 _ _ e
 
   read-counted : sound (s .tag) ≡ true → miscounted n room ≡ false
       → refusal E s (read a n room) ≡ lowest (inPlace (placeOf (s .tag) a n) (λ p. readChecks s p a n))
   unfolding refusal checks
-  read-counted w e = leaves 1 _ _ (ap not w) ∙ uncounted _ _ _ _ e
+  read-counted w e = leaves 1 _ _ (ap not w) ∙ joined-three 2 _ _ _ _ ∙ leaves 2 _ _ e
 
   pub read-outside : sound (s .tag) ≡ true → miscounted n room ≡ false
       → placeOf (s .tag) a n ≡ none → refusal E s (read a n room) ≡ some 3

@@ -2,9 +2,8 @@
 use Prim.Native.Nat.{ℕ, _≤_}
 use mathlib.Core.Path.{_≡_, refl, sym, ap, _∙_}
 use mathlib.Core.Logic.{_≢_}
-use mathlib.Core.Bool.{Bool, true, false, _||_, not}
+use mathlib.Core.Bool.{true, false, _||_, not}
 use mathlib.Core.List.{List}
-use mathlib.Core.Option.{some}
 use native.Mathlib.Omega.{arith}
 use lib.ListN.{length}
 use lib.Dec.{eqb, ltb}
@@ -12,9 +11,9 @@ use borrow.Author.Tests.{eqb-false}
 use Rattle.rules.specs.declared.Refusal.the-variants.{Count, Outside}
 use Rattle.rules.specs.Map.{sound, placeOf}
 use Rattle.rules.specs.State.{Cipher, State}
-use Rattle.rules.specs.Refusals.{Checks, lowest, _when_else_, writeChecks}
+use Rattle.rules.specs.Refusals.{lowest, writeChecks}
 use Rattle.rules.specs.Command.{inPlace, checks, write}
-use Rattle.rules.proofs.Tests.{or-false, gives, leaves}
+use Rattle.rules.proofs.Tests.{or-false, gives, leaves, joined}
 use Rattle.layout.specs.Found.{found}
 use Rattle.tag.proofs.Laws.{refuses}
 use Rattle.tag.proofs.WriteLaws.{judged-as}
@@ -24,11 +23,6 @@ use Rattle.tag.proofs.judge_write.Tie as tie
 
 some-bytes : (n : ℕ) → (eqb n 0 || ltb 4096 n) ≡ false → 1 ≤ n
 some-bytes n e = let f : n ≢ 0 = eqb-false n 0 (or-false _ _ e .0) in omega arith
-
--- both tests of the count give 2
-count-refuses : (a b : Bool) (cs : Checks) → (a || b) ≡ true → lowest (2 when a else 2 when b else cs) ≡ some 2
-count-refuses true b cs e = gives 2 true _ refl
-count-refuses false b cs e = leaves 2 false _ refl ∙ gives 2 b cs e
 
 -- where none does, the place decides
 place-decides : (E : Cipher) (s : State) (a : ℕ) (bs : List ℕ) → sound (s .tag) ≡ true
@@ -43,7 +37,7 @@ returns : tie.Need-returns
 unfolding checks
 returns c =
     let start = c .before .before .before in
-    refuses _ _ Count (leaves 1 _ _ (ap not (start .pre)) ∙ count-refuses _ _ _ (c .if1 .taken))
+    refuses _ _ Count (leaves 1 _ _ (ap not (start .pre)) ∙ joined 2 _ _ _ ∙ gives 2 _ _ (c .if1 .taken))
 
 place-of-requires : tie.Need-place-of-requires
 place-of-requires c κs = (c .before .before .before .pre, some-bytes _ (c .if1 .left))
