@@ -85,6 +85,7 @@ fn guard_fits(tag: &[u8], owner: usize, guard: &[u8], data: &[u8]) -> bool
     octets::equal(guard, &enciphered[4..16])
 }
 
+// COMMIT: the indexes, the flag, and then the guard.
 fn judge_commit(tag: &[u8], pa: [u8; 16], data: &[u8]) -> Answer
     requires { ⌜ (8192 ≤ length (now tag)) × (length (now «data») ≡ 16) ⌝ }
     ensures { λ r. ⌜ refusalOf r ≡ lowest (guardChecks (now (tag .entry)) pa (now («data» .entry))) ⌝ }
@@ -104,7 +105,7 @@ fn judge_commit(tag: &[u8], pa: [u8; 16], data: &[u8]) -> Answer
     }
 }
 
-// Whether a register takes a write.
+// What a write to a register gets.
 pub fn judge(tag: &[u8], session: Session, register: Register, data: &[u8]) -> Answer
     requires { ⌜ 8192 ≤ length (now tag) ⌝ }
     ensures { λ r. ⌜ refusalOf r ≡ lowest (registerChecks E (state (now (tag .entry)) session) register (now («data» .entry))) ⌝ }

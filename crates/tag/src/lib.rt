@@ -132,6 +132,7 @@ fn judge_read_in(tag: &[u8], session: Session, place: Place, at: usize, n: usize
     }
 }
 
+// A read on a sound tag: its count, then its place.
 fn judge_read(tag: &[u8], session: Session, at: usize, n: usize, room: usize) -> Answer
     requires { ⌜ sound (now tag) ≡ true ⌝ }
     ensures { λ r. ⌜ refusalOf r ≡ refusal E (state (now (tag .entry)) session) (command.read at n room) ⌝ }
@@ -333,6 +334,7 @@ fn judge_write_in(tag: &[u8], session: Session, place: Place, at: usize, data: &
     }
 }
 
+// A write on a sound tag: its count, then its place.
 fn judge_write(tag: &[u8], session: Session, at: usize, data: &[u8]) -> Verdict
     requires { ⌜ sound (now tag) ≡ true ⌝ }
     ensures { λ r. ⌜ Judged (command.checks E (state (now (tag .entry)) session) (command.write at (now («data» .entry)))) (actAt (now (tag .entry)) (placeOf (now (tag .entry)) at (length (now («data» .entry))))) r ⌝ }
@@ -378,6 +380,7 @@ fn store_once(tag: &mut [u8], at: usize, data: &[u8], unit: usize)
     tag[unit] = control;
 }
 
+// A verdict, carried out, unless a register takes the write.
 fn carry_out(tag: &mut [u8], at: usize, data: &[u8], verdict: Verdict)
     requires { ⌜ (16 ≤ length (now tag)) × Fits (now tag) at (now «data») verdict ⌝ }
     ensures { λ _. ⌜ now (tag .exit) ≡ apply (storesBy verdict (now (tag .entry)) at (now («data» .entry))) (now (tag .entry)) ⌝ }
