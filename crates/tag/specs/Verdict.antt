@@ -49,7 +49,8 @@ pub record Judged (cs : Checks) (act v : Verdict) : Type 0 where
   pub number : refusalOf (answerOf v) ≡ lowest cs
   pub granted : lowest cs ≡ none → v ≡ act
 
--- what a granted write does: in segment k, by its model; and in a place of the tag t
+-- what a granted write does: in segment k, by its model; and in a place of the tag t. At stage 2, and in the places that
+-- take no write, nothing is granted, so that any act will do.
 unfoldable pub actOf : ℕ → Model → Verdict
 actOf k Default = verdict.Store
 actOf k WriteOnce = verdict.StoreOnce k
@@ -97,6 +98,7 @@ abbrev pub moveAnswer : Move → Answer
 moveAnswer (move.Advance g) = Done
 moveAnswer (move.Refuse r) = Refused r
 
+-- the move by the refusals `cs`, of a unit with the model m: what is granted leaves the stage that the model has
 pub record MoveJudged (cs : Checks) (m : Model) (v : Move) : Type 0 where
   pub number : refusalOf (moveAnswer v) ≡ lowest cs
   pub granted : (g : Stage) → v ≡ move.Advance g → m ≡ Receiver g
