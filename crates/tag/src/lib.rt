@@ -8,9 +8,9 @@ ghost use mathlib.Core.Option.{some};
 ghost use Prim.Native.Nat.{_+_, _%_, _≤_, _<_};
 ghost use lib.ListN.{length};
 ghost use lib.Dec.{eqb};
-ghost use Rattle.rules.specs.Bytes.{byte, part, put, all};
+ghost use Rattle.rules.specs.Bytes.{byte, part, put, same, all};
 ghost use Rattle.rules.specs.Map.{sound, placeOf, unitAt};
-ghost use Rattle.rules.specs.Units.{unitOf, unitBytes};
+ghost use Rattle.rules.specs.Units.{unitOf, unitBytes, nameOf};
 ghost use Rattle.rules.specs.State.{state, poweredUp};
 ghost use Rattle.rules.specs.Answers.{refusalOf, numberOf};
 ghost use Rattle.rules.specs.Refusals.{lowest, granted, _when_else_, isNext, slotRefuses, segmentReadChecks, segmentWriteChecks, unitReadChecks, editChecks, editAllowed, canAdvance, advanceChecks, headerWriteChecks, readChecks, writeChecks};
@@ -91,6 +91,14 @@ fn judge_rights(forbidden: bool, pin: bool, name: bool) -> Answer
     Answer::Done
 }
 
+// Whether a name is the unit's.
+fn named(unit: &[u8], name: &[u8]) -> bool
+    requires { ⌜ length (now unit) ≡ 32 ⌝ }
+    ensures { λ r. ⌜ r ≡ same (now (name .entry)) (nameOf (now (unit .entry))) ⌝ }
+{
+    octets::equal(name, &unit[16..32])
+}
+
 fn judge_segment_read(unit: &[u8], read: usize, name: &[u8]) -> Answer
     requires { ⌜ length (now unit) ≡ 32 ⌝ }
     ensures { λ r. ⌜ refusalOf r ≡ lowest (segmentReadChecks read (now (name .entry)) (now (unit .entry))) ⌝ }
@@ -98,7 +106,7 @@ fn judge_segment_read(unit: &[u8], read: usize, name: &[u8]) -> Answer
     let Decoded::Unit(u) = units::decode(unit) else {
         return Answer::Refused(Refusal::Malformed);
     };
-    let other_name = u.pn & !octets::equal(name, &unit[16..32]);
+    let other_name = u.pn & !named(unit, name);
     judge_rights(!u.rd, u.rdpin & !(read == u.read), other_name)
 }
 
@@ -237,7 +245,7 @@ fn judge_segment_write(
     let Decoded::Unit(u) = units::decode(unit) else {
         return Verdict::Refuse(Refusal::Malformed);
     };
-    let other_name = u.pn & !octets::equal(name, &unit[16..32]);
+    let other_name = u.pn & !named(unit, name);
     let held = judge_rights(!u.wr, u.wrpin & !(write == u.write), other_name);
     if let Answer::Refused(r) = held {
         return Verdict::Refuse(r);
@@ -442,7 +450,7 @@ fn judge_advance(unit: &[u8], write: usize, name: &[u8]) -> Move
     let Decoded::Unit(u) = units::decode(unit) else {
         return Move::Refuse(Refusal::Malformed);
     };
-    let other_name = u.pn & !octets::equal(name, &unit[16..32]);
+    let other_name = u.pn & !named(unit, name);
     let held = judge_rights(false, u.wrpin & !(write == u.write), other_name);
     if let Answer::Refused(r) = held {
         return Move::Refuse(r);

@@ -2,8 +2,6 @@
 use mathlib.Core.Path.{sym, ap, _∙_}
 use Rattle.rules.proofs.Tests.{first-gives, first-leaves}
 use Rattle.rules.specs.declared.Refusal.the-variants.{Malformed}
-use Rattle.rules.specs.Bytes.{part}
-use Rattle.rules.specs.Units.{nameOf}
 use Rattle.rules.specs.Answers.{refusalOf}
 use Rattle.rules.specs.Refusals.{advanceChecks}
 use Rattle.units.proofs.Laws.{decoded-whole}
@@ -27,17 +25,8 @@ unfolding advanceChecks
 returns c =
     move-refuses _ _ Malformed (formless _ _ (sym (c .before .before .decode .ensures) ∙ c .enum-told .given .1))
 
-sub-equal : tie.Need-sub-equal
-sub-equal c = search needs
-
-part-equal-start : tie.Need-part-equal-start
-part-equal-start c = search needs
-
-part-equal-end : tie.Need-part-equal-end
-part-equal-end c = search needs
-
-equal-requires : tie.Need-equal-requires
-equal-requires c κs = search needs
+named-requires : tie.Need-named-requires
+named-requires c κs = search needs
 
 judge-rights-requires : tie.Need-judge-rights-requires
 judge-rights-requires c κs = search needs
@@ -46,14 +35,13 @@ enum-known-held : tie.Need-enum-known-held
 enum-known-held c = search needs
 
 returns-2 : tie.Need-returns-2
-unfolding nameOf part
 returns-2 c =
     let at = c .before .before .before in
-    let equal = at .before .before .before .before in
-    let told = equal .before .before .before in
+    let name = at .before .before .before .before in
+    let told = name .before .before in
     let whole = sym (told .before .before .decode .ensures) ∙ told .u .given .1 in
     let refused = sym (at .judge-rights .ensures) ∙ ap refusalOf (c .before .held .given .1) in
-    move-refuses _ _ _ (advance-by _ _ _ _ _ whole (equal .equal .ensures) ∙ first-gives _ _ _ refused)
+    move-refuses _ _ _ (advance-by _ _ _ _ _ whole (name .named .ensures) ∙ first-gives _ _ _ refused)
 
 enum-told-2 : tie.Need-enum-told-2
 enum-told-2 c = search needs
@@ -62,14 +50,13 @@ judge-stage-requires : tie.Need-judge-stage-requires
 judge-stage-requires c κs = search needs
 
 returns-3 : tie.Need-returns-3
-unfolding nameOf part
 returns-3 c =
     let at = c .before .before .before in
-    let equal = at .before .before .before .before in
-    let told = equal .before .before .before in
+    let name = at .before .before .before .before in
+    let told = name .before .before in
     let whole = sym (told .before .before .decode .ensures) ∙ told .u .given .1 in
     let held = sym (at .judge-rights .ensures) ∙ ap refusalOf (c .before .enum-told2 .given .1) in
-    move-judged _ _ _ _ _ (advance-by _ _ _ _ _ whole (equal .equal .ensures) ∙ first-leaves _ _ held)
+    move-judged _ _ _ _ _ (advance-by _ _ _ _ _ whole (name .named .ensures) ∙ first-leaves _ _ held)
     (ap (λ u. u .model) (sym (decoded-whole _ _ whole .1))) (c .judge-stage .ensures)
 
 pub judge-advance-spec : {M : Type 1} → statement M
@@ -80,10 +67,7 @@ judge-advance-spec =
     enum-known-u
     enum-told
     returns
-    sub-equal
-    part-equal-start
-    part-equal-end
-    equal-requires
+    named-requires
     judge-rights-requires
     enum-known-held
     returns-2

@@ -1,7 +1,5 @@
 -- `tag::judge_segment_read` meets its contract: test by test. Assumes nothing.
 use mathlib.Core.Path.{sym, _∙_}
-use Rattle.rules.specs.Bytes.{part}
-use Rattle.rules.specs.Units.{nameOf}
 use Rattle.rules.specs.Refusals.{segmentReadChecks}
 use Rattle.tag.proofs.UnitLaws.{formless}
 use Rattle.tag.proofs.ReadLaws.{segment-read-by}
@@ -22,29 +20,19 @@ returns : tie.Need-returns
 unfolding segmentReadChecks
 returns c = sym (formless _ _ (sym (c .before .before .decode .ensures) ∙ c .enum-told .given .1))
 
-sub-equal : tie.Need-sub-equal
-sub-equal c = search needs
-
-part-equal-start : tie.Need-part-equal-start
-part-equal-start c = search needs
-
-part-equal-end : tie.Need-part-equal-end
-part-equal-end c = search needs
-
-equal-requires : tie.Need-equal-requires
-equal-requires c κs = search needs
+named-requires : tie.Need-named-requires
+named-requires c κs = search needs
 
 judge-rights-requires : tie.Need-judge-rights-requires
 judge-rights-requires c κs = search needs
 
 returns-2 : tie.Need-returns-2
-unfolding nameOf part
 returns-2 c =
     let at = c .before .before .before .before .before in
-    let told = at .before .before in
+    let told = at .before in
     c .judge-rights .ensures
     ∙ segment-read-by _ _ _ _ _ (sym (told .before .before .before .decode .ensures) ∙ told .before .u .given .1)
-    (at .equal .ensures)
+    (at .named .ensures)
 
 pub judge-segment-read-spec : {M : Type 1} → statement M
 judge-segment-read-spec =
@@ -54,9 +42,6 @@ judge-segment-read-spec =
     enum-known-u
     enum-told
     returns
-    sub-equal
-    part-equal-start
-    part-equal-end
-    equal-requires
+    named-requires
     judge-rights-requires
     returns-2)

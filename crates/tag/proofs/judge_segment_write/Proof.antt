@@ -7,7 +7,7 @@ use lib.Dec.{eqb}
 use Rattle.rules.proofs.Tests.{first-gives, first-leaves}
 use Rattle.rules.specs.declared.Refusal.the-variants.{Malformed}
 use Rattle.rules.specs.declared.Unit.{Unit}
-use Rattle.rules.specs.Bytes.{part, same}
+use Rattle.rules.specs.Bytes.{same}
 use Rattle.rules.specs.Units.{nameOf}
 use Rattle.rules.specs.Answers.{refusalOf}
 use Rattle.rules.specs.Refusals.{lowest, _when_else_, granted, slotRefuses, segmentWriteChecks}
@@ -44,17 +44,8 @@ unfolding segmentWriteChecks
 returns c =
     refuses _ _ Malformed (formless _ _ (sym (c .before .before .decode .ensures) ∙ c .enum-told .given .1))
 
-sub-equal : tie.Need-sub-equal
-sub-equal c = search needs
-
-part-equal-start : tie.Need-part-equal-start
-part-equal-start c = search needs
-
-part-equal-end : tie.Need-part-equal-end
-part-equal-end c = search needs
-
-equal-requires : tie.Need-equal-requires
-equal-requires c κs = search needs
+named-requires : tie.Need-named-requires
+named-requires c κs = search needs
 
 judge-rights-requires : tie.Need-judge-rights-requires
 judge-rights-requires c κs = search needs
@@ -63,12 +54,11 @@ enum-known-held : tie.Need-enum-known-held
 enum-known-held c = search needs
 
 returns-2 : tie.Need-returns-2
-unfolding nameOf part
 returns-2 c =
     let name = c .before .before .before .before .before .before .before .before in
-    let unit = name .before .before .before in
+    let unit = name .before .before in
     refuses _ _ _
-    (checks-of _ _ _ _ _ _ _ _ (sym (unit .before .before .decode .ensures) ∙ unit .u .given .1) (name .equal .ensures)
+    (checks-of _ _ _ _ _ _ _ _ (sym (unit .before .before .decode .ensures) ∙ unit .u .given .1) (name .named .ensures)
     ∙ first-gives _ _ _
     (sym (c .before .before .before .judge-rights .ensures) ∙ ap refusalOf (c .before .held .given .1)))
 
@@ -77,18 +67,17 @@ enum-told-2 c = search needs
 
 judge-model-requires : tie.Need-judge-model-requires
 judge-model-requires c κs =
-    let unit = c .before .before .before .before .before .before .before .before .before .before in
+    let unit = c .before .before .before .before .before .before .before .before .before in
     unit .before .before .before .before .before .before .before .pre .1
 
 returns-3 : tie.Need-returns-3
-unfolding nameOf part
 returns-3 c =
     let name = c .before .before .before .before .before .before .before .before in
-    let unit = name .before .before .before in
+    let unit = name .before .before in
     let whole = sym (unit .before .before .decode .ensures) ∙ unit .u .given .1 in
     rw (sym (decoded-whole _ _ whole .1))
     (judged-as _ _ _ _
-    (sym (checks-of _ _ _ _ _ _ _ _ whole (name .equal .ensures)
+    (sym (checks-of _ _ _ _ _ _ _ _ whole (name .named .ensures)
     ∙ first-leaves _ _
     (sym (c .before .before .before .judge-rights .ensures) ∙ ap refusalOf (c .before .enum-told2 .given .1))))
     (c .judge-model .ensures))
@@ -101,10 +90,7 @@ judge-segment-write-spec =
     enum-known-u
     enum-told
     returns
-    sub-equal
-    part-equal-start
-    part-equal-end
-    equal-requires
+    named-requires
     judge-rights-requires
     enum-known-held
     returns-2
