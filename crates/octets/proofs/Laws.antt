@@ -11,7 +11,7 @@ use lib.Seq.{length-take-le}
 use borrow.Rule.Slice.PartMut.{putMid, midOf}
 use lib.Bits.{bitXor, xor-comm}
 use lib.Dec.{eqb}
-use Rattle.rules.proofs.BytesLaws.{length-put, length-xor}
+use Rattle.rules.proofs.BytesLaws.{length-put, put-behind, length-xor}
 use Rattle.rules.specs.Bytes.{part, put, number, numberFrom, same, zeros, xor}
 
 -- ---- numbers: the first byte of a part is its highest digit
@@ -163,15 +163,8 @@ put-at zero (b ∷ bs) (x ∷ t) h l = refl
 put-at (suc i) (b ∷ bs) (x ∷ t) h l = put-at i bs t (omega arith) (omega arith)
 
 pub put-rest : (i : ℕ) (bs t : List ℕ) → (length t ≤ i) ⊎ (length bs ≤ i) → drop i (put 0 bs t) ≡ drop i t
-unfolding put
 put-rest i bs t (inl h) = rest-none i (put 0 bs t) t (length-put 0 bs t) h
-put-rest i bs t (inr h) = unwritten i bs t h
-  where
-    unwritten : (i : ℕ) (bs t : List ℕ) → length bs ≤ i → drop i (put 0 bs t) ≡ drop i t
-    unwritten i bs [] h = refl
-    unwritten i [] (x ∷ t) h = refl
-    unwritten zero (b ∷ bs) (x ∷ t) h = absurd (omega arith)
-    unwritten (suc i) (b ∷ bs) (x ∷ t) h = unwritten i bs t (omega arith)
+put-rest i bs t (inr h) = put-behind i bs t h
 
 pub xor-at : (i : ℕ) (xs ys : List ℕ) → i < length xs → i < length ys
     → getD (xor xs ys) i 0 ≡ bitXor (getD xs i 0) (getD ys i 0)
@@ -192,7 +185,7 @@ xor-rest i xs ys (inr h) = unwritten i xs ys h
     unwritten zero (x ∷ xs) (y ∷ ys) h = absurd (omega arith)
     unwritten (suc i) (x ∷ xs) (y ∷ ys) h = unwritten i xs ys (omega arith)
 
--- ---- one byte
+-- ---- bytes, one by one
 
 -- a byte that is set is a store
 pub set-put : (i v : ℕ) (t : List ℕ) → set t i v ≡ put i (v ∷ []) t
@@ -201,6 +194,11 @@ set-put i v [] = refl
 set-put zero v (x ∷ []) = refl
 set-put zero v (x ∷ y ∷ t) = refl
 set-put (suc i) v (x ∷ t) = ap (λ l. x ∷ l) (set-put i v t)
+
+pub put-two : (a b : ℕ) (t : List ℕ) → set (set t 0 a) 1 b ≡ put 0 (a ∷ b ∷ []) t
+unfolding put
+put-two a b [] = refl
+put-two a b (x ∷ t) = ap (λ l. a ∷ l) (set-put 0 b t)
 
 -- ---- a part that is lent, and comes back changed
 

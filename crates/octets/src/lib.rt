@@ -21,6 +21,15 @@ pub fn number16(bytes: &[u8], at: usize) -> usize
     (wide(bytes[at]) * 256 + wide(bytes[at + 1])) as usize
 }
 
+// The number that four bytes hold.
+pub fn number32(bytes: &[u8], at: usize) -> usize
+    requires { ⌜ at + 4 ≤ length (now bytes) ⌝ }
+    ensures { λ r. ⌜ r ≡ number (part at 4 (now (bytes .entry))) ⌝ }
+{
+    (((wide(bytes[at]) * 256 + wide(bytes[at + 1])) * 256 + wide(bytes[at + 2])) * 256
+        + wide(bytes[at + 3])) as usize
+}
+
 // The number that eight bytes hold. By Horner's rule it becomes one load and a swap of bytes.
 pub fn number64(bytes: &[u8], at: usize) -> u64
     requires { ⌜ at + 8 ≤ length (now bytes) ⌝ }

@@ -4,7 +4,7 @@ use mathlib.Core.Path.{_≡_, refl, sym, ap, _∙_}
 use mathlib.Core.Bool.{true}
 use mathlib.Core.List.{List, [], _∷_, _++_}
 use native.Mathlib.Omega.{arith}
-use native.Mathlib.Nat.{div-add-mod', div-lt-iff-lt-mul, pow-suc}
+use native.Mathlib.Nat.{div-add-mod', div-lt-iff-lt-mul, pow-suc, add-comm, add-suc, suc-add}
 use lib.ListN.{length, take, drop, length-take, length-drop, length-append}
 use lib.Seq.{ext-getD, getD-take, getD-drop}
 use borrow.Author.Tests.{eq-eqb}
@@ -37,6 +37,31 @@ unfolding put
 byte-put a b [] h = absurd (omega arith)
 byte-put zero b (x ∷ t) h = refl
 byte-put (suc a) b (x ∷ t) h = byte-put a b t (omega arith)
+
+-- two stores, one behind the other, are one
+pub put-append : (a : ℕ) (bs cs t : List ℕ) → put a (bs ++ cs) t ≡ put (a + length bs) cs (put a bs t)
+unfolding put
+put-append a bs cs t = rw add-comm (by a bs cs t)
+  where
+    by : (a : ℕ) (bs cs t : List ℕ) → put a (bs ++ cs) t ≡ put (length bs + a) cs (put a bs t)
+    by a bs cs [] = refl
+    by zero [] cs (x ∷ t) = refl
+    by zero (b ∷ bs) cs (x ∷ t) = rw suc-add (ap (λ r. b ∷ r) (by zero bs cs t))
+    by (suc a) bs cs (x ∷ t) = rw add-suc (ap (λ r. x ∷ r) (by a bs cs t))
+
+pub put-none : (a : ℕ) (t : List ℕ) → put a [] t ≡ t
+unfolding put
+put-none a [] = refl
+put-none zero (x ∷ t) = refl
+put-none (suc a) (x ∷ t) = ap (λ r. x ∷ r) (put-none a t)
+
+-- what is behind a store stays
+pub put-behind : (i : ℕ) (bs t : List ℕ) → length bs ≤ i → drop i (put 0 bs t) ≡ drop i t
+unfolding put
+put-behind i bs [] h = refl
+put-behind i [] (x ∷ t) h = refl
+put-behind zero (b ∷ bs) (x ∷ t) h = absurd (omega arith)
+put-behind (suc i) (b ∷ bs) (x ∷ t) h = put-behind i bs t (omega arith)
 
 -- ---- a part after a store
 

@@ -7,7 +7,6 @@ use mathlib.Core.List.{List, [], _∷_, _++_}
 use mathlib.Core.Option.{none, some}
 use native.Mathlib.Omega.{arith}
 use lib.ListN.{length}
-use borrow.Author.Tests.{not-false, ltb-false}
 use Rattle.rules.specs.declared.Answer.{Answer}
 use Rattle.rules.specs.declared.Answer.the-variants.{Done, Refused}
 use Rattle.rules.specs.declared.Refusal.the-variants.{WrongResponse}
@@ -19,10 +18,8 @@ use Rattle.rules.specs.Refusals.{lowest}
 use Rattle.rules.specs.Effects.{apply, refusalStores}
 use Rattle.rules.specs.Command.{Command, Reply, stores, newSession, done, gives, refused, read, write, advance, powerUp, checks, refusal, grant, reply, replyBy, after, afterBy, filled}
 use Rattle.rules.specs.Run.{final, replies}
-use Rattle.rules.proofs.Tests.{passes}
-use Rattle.rules.proofs.BytesLaws.{part-put-same, length-part}
-use Rattle.rules.proofs.Places.{the-map}
-use Rattle.rules.proofs.Grants.{in-place}
+use Rattle.rules.proofs.BytesLaws.{part-put-same}
+use Rattle.rules.proofs.GrantedRead.{granted-read}
 use Rattle.rules.specs.Demand3.{withCopies, withoutCopies}
 use Rattle.rules.proofs.Demand3.{demand-3}
 use Rattle.rules.proofs.Refused.{eleven-or-none}
@@ -57,7 +54,7 @@ module _ (E : Cipher) where
 
   -- ---- a call answers and leaves what the rules say
 
-  replied : (s : State) (c : Command) (a : Answer) → refusalOf a ≡ refusal E s c → replyOf a (grant s c) ≡ reply E s c
+  pub replied : (s : State) (c : Command) (a : Answer) → refusalOf a ≡ refusal E s c → replyOf a (grant s c) ≡ reply E s c
   unfolding reply replyBy
   replied s c Done e = rw (← e)
   replied s c (Refused r) e = rw (← e)
@@ -65,17 +62,10 @@ module _ (E : Cipher) where
   -- the bytes of a granted read are those at the start of its output
   read-back : (s : State) (a n : ℕ) (out : List ℕ) → refusal E s (read a n (length out)) ≡ none
       → part 0 n (put 0 (part a n (s .tag)) out) ≡ part a n (s .tag)
-  unfolding refusal checks
   read-back s a n out e =
-      let c1 = passes _ _ _ e in
-      let c2 = passes _ _ _ (c1 .1) in
-      let c3 = passes _ _ _ (c2 .1) in
-      let c4 = passes _ _ _ (c3 .1) in
-      let p = in-place _ _ (c4 .1) in
-      let w = not-false _ (c1 .0) in
-      let i = the-map (s .tag) w .in-tag (p .0) a n (p .1) in
-      let l : length (part a n (s .tag)) ≡ n = length-part a n (s .tag) ∙ omega arith in
-      let r = ltb-false (length out) n (c4 .0) in
+      let g = granted-read E s a n (length out) e in
+      let l = g .whole in
+      let r = g .fits in
       subst (λ m. part 0 m (put 0 (part a n (s .tag)) out) ≡ part a n (s .tag)) l
       (part-put-same 0 (part a n (s .tag)) out (omega arith))
 
@@ -88,7 +78,7 @@ module _ (E : Cipher) where
       rw (← e, g) (ap gives (read-back s a n out (sym e)))
   read-replied s a n out left (Refused r) e f = rw (← e)
 
-  powered : (s : State) → (done ≡ reply E s powerUp) × (state (s .tag) poweredUp ≡ after E s powerUp)
+  pub powered : (s : State) → (done ≡ reply E s powerUp) × (state (s .tag) poweredUp ≡ after E s powerUp)
   unfolding refusal checks lowest reply replyBy grant after afterBy stores newSession apply
   powered s = (refl, refl)
 

@@ -5,6 +5,7 @@ pub mod StoreLaws
 pub mod MapLaws
 pub mod Places
 pub mod Grants
+pub mod GrantedRead
 pub mod Lawful
 pub mod Locked
 pub mod Slots
@@ -20,4 +21,6 @@ pub mod FourCommands
 pub mod Examples
 pub mod Moves
 pub mod Calls
+pub mod RunLaws
+pub mod Runs
 pub mod Theorems

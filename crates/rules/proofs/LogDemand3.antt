@@ -20,7 +20,7 @@ encoded-append [] ys = refl
 encoded-append (x ∷ xs) ys =
     ap (λ r. encoded x ++ r) (encoded-append xs ys) ∙ sym (append-assoc (encoded x) (encodedAll xs) (encodedAll ys))
 
-is-list : (E : Cipher) (s : State) (log : List ℕ) (room : ℕ) → Ends E s log room → IsList E s log room
+pub is-list : (E : Cipher) (s : State) (log : List ℕ) (room : ℕ) → Ends E s log room → IsList E s log room
 unfolding runLog
 is-list E s log room e =
     let x = run-is-list E s (parsed 0 log) room e in

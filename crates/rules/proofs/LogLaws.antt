@@ -12,13 +12,13 @@ use Rattle.rules.specs.declared.Stop.the-variants.{BadCommand, End, Outp
 use Rattle.rules.specs.State.{Cipher, State}
 use Rattle.rules.specs.Command.{Command, refused, reply, after}
 use Rattle.rules.specs.Run.{replies, final}
-use Rattle.rules.specs.Log.{parsed, first, unreadable, parsedBy, _taking_then_, runLog, carriedOut, commandsOf, roomFor, stopped, encoded, Parsed, onward, Run, encodedAll, end, Kind, wholeOf, bodyLength, commandOf}
+use Rattle.rules.specs.Log.{parsed, first, unreadable, parsedBy, _taking_then_, runLog, carriedOut, commandsOf, roomFor, stopped, encoded, Parsed, onward, Ran, encodedAll, end, Kind, wholeOf, bodyLength, commandOf}
 use Rattle.rules.specs.Claims.{LogIsItsCommands}
 use Rattle.rules.proofs.Tests.{some-none, same-some}
 
 -- ---- the bytes of a body are skipped
 
-parsed-drop : (n : ℕ) (log : List ℕ) → parsed n log ≡ parsed 0 (drop n log)
+pub parsed-drop : (n : ℕ) (log : List ℕ) → parsed n log ≡ parsed 0 (drop n log)
 unfolding parsed
 parsed-drop zero [] = refl
 parsed-drop zero (b ∷ log) = refl
@@ -72,7 +72,7 @@ had-room : (E : Cipher) (s : State) (c : Command) (n : ℕ) (p : Parsed) (room :
 unfolding carriedOut stopped
 had-room E s c n p room e = by (leb (roomFor c) room) e
   where
-    rest : Run
+    rest : Ran
     rest = onward n (encoded (reply E s c)) (carriedOut E (after E s c) p (room - length (encoded (reply E s c))))
 
     by : (b : Bool) → cond b rest (stopped OutputFull [] s) .stop ≡ End → cond b rest (stopped OutputFull [] s) ≡ rest
@@ -92,7 +92,7 @@ run-is-list E s (c taking n then p) room e =
     (ap (λ r. r .output) h ∙ ap (λ r. encoded (reply E s c) ++ r) (x .0), ap (λ r. r .state) h ∙ x .1)
 
 -- a whole body is within the log
-body-fits : (o : Option Kind) (body : List ℕ) (c : Command) (n : ℕ) → wholeOf o body ≡ some (c, n) → n ≤ length body
+pub body-fits : (o : Option Kind) (body : List ℕ) (c : Command) (n : ℕ) → wholeOf o body ≡ some (c, n) → n ≤ length body
 unfolding wholeOf
 body-fits none body c n e = some-none (sym e)
 body-fits (some k) body c n e = by (leb (bodyLength k) (length body)) refl e

@@ -8,6 +8,8 @@ use Rattle.rules.proofs.Counting.{one-answer-each}
 use Rattle.rules.proofs.Refused.{lowest-given, refusal-named, refused-changes-nothing}
 use Rattle.rules.proofs.Demand3.{demand-3}
 use Rattle.rules.proofs.Calls.{calls-follow, calls-demand-3, refused-leaves, refused-reads}
+use Rattle.rules.proofs.RunLaws.{runs-continue}
+use Rattle.rules.proofs.Runs.{runs-leave, runs-demand-3}
 use Rattle.rules.proofs.LogLaws.{log-is-its-commands}
 use Rattle.rules.proofs.LogDemand3.{log-demand-3}
 use Rattle.rules.proofs.FourCommands.{host-reads}
@@ -23,6 +25,9 @@ theorems =
       calls-demand-3 = calls-demand-3;
       refused-leaves = refused-leaves;
       refused-reads = refused-reads;
+      runs-demand-3 = runs-demand-3;
+      runs-leave = runs-leave;
+      runs-continue = runs-continue;
       lowest-given = lowest-given;
       refusal-named = refusal-named;
       refused-changes-nothing = refused-changes-nothing;

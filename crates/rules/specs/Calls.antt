@@ -10,12 +10,16 @@ use Rattle.rules.specs.declared.Answer.the-variants.{Done, Refused}
 use Rattle.rules.specs.declared.Refusal.{Refusal}
 use Rattle.rules.specs.declared.Refusal.the-variants.{WrongResponse}
 use Rattle.rules.specs.declared.Outcome.{Outcome}
+use Rattle.rules.specs.declared.Session.{Session}
 use Rattle.rules.specs.Bytes.{part, put}
 use Rattle.rules.specs.State.{Cipher, State, state, poweredUp}
 use Rattle.rules.specs.Answers.{numberOf, refusalOf}
 use Rattle.rules.specs.Command.{Command, Reply, done, gives, refused, read, write, advance, powerUp, refusal, reply, after, filled}
 use Rattle.rules.specs.Demand3.{LockedCounter, slot, valueAt, grants, Entry, withCopies, withoutCopies, ownReplies, copyReplies, AllRefused, CopiesOfGranted, MayChangePlaces}
 use Rattle.rules.specs.Run.{final, replies}
+
+abbrev pub outcome : Answer → Session → Outcome
+outcome a v = record { answer = a; session = v }
 
 -- a call that carries the command c out on the state s, answers o and leaves the tag t: the answer is the grant or the
 -- refusal that the rules give, and the tag and the session are what they leave

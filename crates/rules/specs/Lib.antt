@@ -11,6 +11,7 @@ pub mod Run
 pub mod Log
 pub mod Demand3
 pub mod Calls
+pub mod Runs
 pub mod Claims
 pub mod FourCommands
 pub mod Examples

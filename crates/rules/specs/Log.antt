@@ -108,23 +108,23 @@ roomFor powerUp = 2
 -- ---- the run: "returns bytes read .., bytes written, the stop (end, 15, 16) and the session"; the bytes written are
 -- `output`
 
-pub record Run : Type 0 where
+pub record Ran : Type 0 where
   pub taken : ℕ
   pub output : List ℕ
   pub stop : Stop
   pub state : State
 
 -- the run stops here, after the last bytes written
-unfoldable pub stopped : Stop → List ℕ → State → Run
+unfoldable pub stopped : Stop → List ℕ → State → Ran
 stopped x out s = record { taken = 0; output = out; stop = x; state = s }
 
 -- a run goes on after a command that took n bytes and wrote these
-unfoldable pub onward : ℕ → List ℕ → Run → Run
+unfoldable pub onward : ℕ → List ℕ → Ran → Ran
 onward n out r = record { taken = n + r .taken; output = out ++ r .output; stop = r .stop; state = r .state }
 
 -- "A 15 is replied and ends the run. .. otherwise the run stops with 16, which is returned and not written, and the
 -- command isn't carried out."
-unfoldable pub carriedOut : Cipher → State → Parsed → (room : ℕ) → Run
+unfoldable pub carriedOut : Cipher → State → Parsed → (room : ℕ) → Ran
 carriedOut E s end room = stopped End [] s
 carriedOut E s unreadable room =
     cond (leb 2 room) (stopped BadCommand (encoded (refused 15)) s) (stopped OutputFull [] s)
@@ -133,5 +133,5 @@ carriedOut E s (c taking n then p) room =
     (onward n (encoded (reply E s c)) (carriedOut E (after E s c) p (room - length (encoded (reply E s c)))))
     (stopped OutputFull [] s)
 
-unfoldable pub runLog : Cipher → State → List ℕ → (room : ℕ) → Run
+unfoldable pub runLog : Cipher → State → List ℕ → (room : ℕ) → Ran
 runLog E s log room = carriedOut E s (parsed 0 log) room

@@ -102,3 +102,11 @@ pub enum Stop {
     BadCommand,
     OutputFull,
 }
+
+/// What a run over a log returns: "bytes read .., bytes written, the stop (end, 15, 16) and the session".
+pub struct Run {
+    pub read: usize,
+    pub written: usize,
+    pub stop: Stop,
+    pub session: Session,
+}

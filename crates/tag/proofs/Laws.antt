@@ -1,24 +1,106 @@
--- Laws that the judges share: the verdict that follows from the lowest refusal. Assumes nothing.
-use mathlib.Core.Path.{_≡_, refl, sym, _∙_}
-use mathlib.Core.Option.{none, some}
-use Rattle.rules.specs.declared.Refusal.{Refusal}
+-- The laws that the functions of a run cite: replies in their place, the state after a command, and what a run has left
+-- to do. Assumes nothing.
+use Prim.Native.Nat.{ℕ, zero, suc, _+_, _-_, _≤_, _<_}
+use mathlib.Core.Path.{_≡_, refl, sym, ap, subst, _∙_}
+use mathlib.Core.Bool.{Bool, true, false}
+use mathlib.Core.List.{List, [], _∷_, _++_}
+use mathlib.Core.Option.{Option, none, some}
+use native.Mathlib.Omega.{arith}
+use lib.ListN.{length, take, drop, take-append-drop}
+use borrow.Rule.Slice.PartMut.{putMid, midOf, put-same}
+use Rattle.rules.specs.declared.Session.{Session}
 use Rattle.rules.specs.declared.Answer.{Answer}
 use Rattle.rules.specs.declared.Answer.the-variants.{Done, Refused}
-use Rattle.rules.specs.Answers.{refusalOf, numberOf}
-use Rattle.rules.specs.Refusals.{Checks, lowest}
-use Rattle.rules.proofs.Tests.{some-none}
-use Rattle.tag.specs.declared.Verdict.{Verdict}
-use Rattle.tag.specs.declared.Verdict.the-variants.{Refuse}
-use Rattle.tag.specs.Verdict.{Judged, answerOf, verdictOf}
+use Rattle.rules.specs.declared.Outcome.{Outcome}
+use Rattle.rules.specs.Bytes.{part, put}
+use Rattle.rules.specs.State.{State, state, poweredUp}
+use Rattle.rules.specs.Answers.{refusalOf}
+use Rattle.rules.specs.Command.{Command, read, write, advance, powerUp, done, refused, refusal, grant, reply, replyBy, filled, after}
+use Rattle.rules.specs.Calls.{CarriedOut, outcome, replyOf}
+use Rattle.rules.specs.Log.{encoded}
+use Rattle.rules.proofs.BytesLaws.{put-none}
+use Rattle.rules.proofs.GrantedRead.{granted-read}
+use Rattle.rules.proofs.Calls.{replied, powered}
+use Rattle.octets.proofs.Laws.{part-lent}
+use Rattle.commands.proofs.ReadLaws.{read-stays}
+use Rattle.xxtea.specs.Block.{E}
+use Rattle.command_log.specs.Next.{readHead, readLength}
+use Rattle.tag.specs.Replies.{Written, Replies}
 
-pub refuses : (cs : Checks) (act : Verdict) (r : Refusal) → lowest cs ≡ some (numberOf r) → Judged cs act (Refuse r)
-refuses cs act r e = record { number = sym e; granted = λ f. some-none (sym e ∙ f) }
+-- ---- a store in a part that is lent
 
-pub acts : (cs : Checks) (act : Verdict) → answerOf act ≡ Done → lowest cs ≡ none → Judged cs act act
-acts cs act d e = record { number = cc; granted = λ f. refl }
+pub put-part-back : (a k : ℕ) (bs t : List ℕ) → length bs ≤ k → putMid a k t (put 0 bs (midOf a k t)) ≡ put a bs t
+unfolding put
+put-part-back zero k bs t h = front k bs t h
+  where
+    front : (k : ℕ) (bs t : List ℕ) → length bs ≤ k → put 0 bs (take k t) ++ drop k t ≡ put 0 bs t
+    front zero [] [] h = refl
+    front zero [] (x ∷ t) h = refl
+    front zero (b ∷ bs) t h = absurd (omega arith)
+    front (suc k) bs [] h = refl
+    front (suc k) [] (x ∷ t) h = ap (λ l. x ∷ l) (take-append-drop k t)
+    front (suc k) (b ∷ bs) (x ∷ t) h = ap (λ l. b ∷ l) (front k bs t (omega arith))
+put-part-back (suc a) zero bs [] h = refl
+put-part-back (suc a) (suc k) bs [] h = refl
+put-part-back (suc a) k bs (x ∷ t) h = ap (λ l. x ∷ l) (put-part-back a k bs t h)
 
--- an answer that is the lowest refusal, made a verdict
-pub judged : (cs : Checks) (act : Verdict) (a : Answer) → answerOf act ≡ Done → refusalOf a ≡ lowest cs
-    → Judged cs act (verdictOf a act)
-judged cs act Done d e = acts cs act d (sym e)
-judged cs act (Refused r) d e = refuses cs act r (sym e)
+-- ---- the reply to a read
+
+-- a code in front of bytes that stand already
+put-head : (c : ℕ) (bs t : List ℕ) → put 0 (c ∷ []) (put 1 bs t) ≡ put 0 (c ∷ bs) t
+unfolding put
+put-head c bs [] = refl
+put-head c bs (x ∷ t) = ap (λ l. c ∷ l) (put-none 0 (put 0 bs t))
+
+pub read-written : (s : State) (a n m k : ℕ) (out ys : List ℕ) (q : Answer) → m ≡ n → k ≡ n
+    → refusalOf q ≡ refusal E s (read a n m) → ys ≡ filled (reply E s (read a n m)) (midOf 1 k out)
+    → Written (reply E s (read a n n)) out (put 0 (readHead q n) (putMid 1 k out ys)) (readLength q n)
+unfolding reply replyBy filled grant encoded
+read-written s a n m k out ys Done p l e f =
+    let g : none ≡ refusal E s (read a n n) = subst (λ x. none ≡ refusal E s (read a n x)) p e in
+    let w = granted-read E s a n n (sym g) .whole in
+    let h : ys ≡ put 0 (part a n (s .tag)) (midOf 1 k out) = rw (← e) at f in
+    rw (← g) (record {
+      bytes = rw (h, put-part-back 1 k (part a n (s .tag)) out (omega arith), w) (put-head _ (part a n (s .tag)) out);
+      count = rw w (omega arith);
+    })
+read-written s a n m k out ys (Refused r) p l e f =
+    let g = subst (λ x. refusalOf (Refused r) ≡ refusal E s (read a n x)) p e in
+    let h : ys ≡ midOf 1 k out = rw (← e) at f in
+    rw (← g) (record { bytes = rw (h, put-same 1 k out) refl; count = refl })
+
+-- ---- the command that comes next, carried out and replied to
+
+-- one whose grant is a plain 50
+pub answered : (s : State) (c : Command) (n : ℕ) (q : Option (Command × ℕ)) (out t o : List ℕ) (a : Answer) (v : Session) (w : ℕ)
+    → q ≡ some (c, n) → grant s c ≡ done → CarriedOut E s c t (outcome a v)
+    → (o ≡ put 0 (encoded (replyOf a done)) out) × (w ≡ length (encoded (replyOf a done)))
+    → Replies E s q out t o (record { written = w; session = v })
+answered s c n q out t o a v w e g h p =
+    let r = ap (replyOf a) (sym g) ∙ replied E s c a (h .answered) in
+    rw e (record { left = h .left; written = rw (← r) (record { bytes = p .0; count = p .1 }) })
+
+-- a write of bytes that the log lends
+pub write-replied : (s : State) (a i n m : ℕ) (log out t o : List ℕ) (r : Outcome) (w : ℕ) (q : Option (Command × ℕ))
+    → q ≡ some (write a (part i n log), m) → CarriedOut E s (write a (midOf i (i + n - i) log)) t r
+    → (o ≡ put 0 (encoded (replyOf (r .answer) done)) out) × (w ≡ length (encoded (replyOf (r .answer) done)))
+    → Replies E s q out t o (record { written = w; session = r .session })
+write-replied s a i n m log out t o r w q e h p =
+    answered s (write a (part i n log)) m q out t o (r .answer) (r .session) w e (unfold grant in refl)
+    (rw (part-lent i n log) at h) p
+
+pub powered-up : (s : State) (n : ℕ) (q : Option (Command × ℕ)) (out o : List ℕ) (v : Session) (w : ℕ) → q ≡ some (powerUp, n)
+    → v ≡ poweredUp → (o ≡ put 0 (encoded done) out) × (w ≡ length (encoded done))
+    → Replies E s q out (s .tag) o (record { written = w; session = v })
+powered-up s n q out o v w e h p =
+    let r = powered E s in
+    rw (e, h) (record { left = r .1; written = rw (← r .0) (record { bytes = p .0; count = p .1 }) })
+
+pub read-replied : (s : State) (a n m : ℕ) (q : Option (Command × ℕ)) (out o : List ℕ) (w : ℕ) → q ≡ some (read a n n, m)
+    → Written (reply E s (read a n n)) out o w → Replies E s q out (s .tag) o (record { written = w; session = s .session })
+read-replied s a n m q out o w e h = rw e (record { left = sym (read-stays _ _ _ _ _); written = h })
+
+pub unreadable-replied : (s : State) (q : Option (Command × ℕ)) (out o : List ℕ) (w : ℕ) → q ≡ none
+    → (o ≡ put 0 (encoded (refused 15)) out) × (w ≡ length (encoded (refused 15)))
+    → Replies E s q out (s .tag) o (record { written = w; session = s .session })
+unreadable-replied s q out o w e p = rw e (record { left = refl; written = record { bytes = p .0; count = p .1 } })

@@ -1,2 +1,2 @@
 -- The root of the definitions of `tag`.
-pub mod Verdict
+pub mod Replies

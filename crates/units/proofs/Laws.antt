@@ -25,6 +25,7 @@ use Rattle.rules.specs.Effects.{readOnly, advanced}
 use Rattle.rules.proofs.Model as the-model
 use Rattle.rules.proofs.Tests.{true-false, and-true}
 use Rattle.rules.proofs.Moves.{bit-set, bit-clear}
+use Rattle.octets.proofs.Laws.{put-two}
 use Rattle.units.specs.declared.Decoded.the-variants.{Unit as Whole, Malformed}
 use Rattle.units.specs.declared.ModelRead.the-variants.{Known, Unknown}
 use Rattle.units.specs.Decoded.{decoded, known, bothFit, modelRead, bytesFit, unitWith, mayBecome, opened, movedTo}
@@ -250,16 +251,9 @@ opened-read-only b l w r =
     let h : b / 32 ≡ 2 * (b / 64) + 1 = omega arith in
     omega arith
 
--- two bytes stored one by one
-pub put-two : (u : List ℕ) (a b : ℕ) → set (set u 0 a) 1 b ≡ put 0 (a ∷ b ∷ []) u
-unfolding put
-put-two [] a b = refl
-put-two (x ∷ []) a b = refl
-put-two (x ∷ y ∷ []) a b = refl
-put-two (x ∷ y ∷ z ∷ u) a b = refl
-
+-- two bytes stored one by one, the first of which stays
 pub put-second : (u : List ℕ) (b : ℕ) → set u 1 b ≡ put 0 (byte 0 u ∷ b ∷ []) u
-put-second u b = sym (ap (λ v. set v 1 b) (set-getD u 0 0)) ∙ put-two u (byte 0 u) b
+put-second u b = sym (ap (λ v. set v 1 b) (set-getD u 0 0)) ∙ put-two (byte 0 u) b u
 
 pub put-neither : (u : List ℕ) → u ≡ put 0 (byte 0 u ∷ byte 1 u ∷ []) u
 put-neither u = sym (set-getD u 1 0) ∙ put-second u (byte 1 u)

@@ -1,6 +1,7 @@
 -- `units::advance` meets its contract. Assumes nothing.
 use Rattle.units.specs.Decoded.{movedTo}
-use Rattle.units.proofs.Laws.{put-two, put-second, put-neither}
+use Rattle.octets.proofs.Laws.{put-two}
+use Rattle.units.proofs.Laws.{put-second, put-neither}
 use borrow.Author.Needs.{needs}
 use Rattle.units.proofs.advance.Statement.{statement}
 use Rattle.units.proofs.advance.Tie as tie

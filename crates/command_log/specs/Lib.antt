@@ -1,0 +1,2 @@
+-- The root of the definitions of `command_log`.
+pub mod Next

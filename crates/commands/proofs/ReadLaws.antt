@@ -1,0 +1,299 @@
+-- Laws on decoded units, reads and advances that the judges and the commands above them cite. Assumes nothing.
+use Prim.Native.Nat.{ℕ, zero, suc, _+_, _-_, _≤_, _<_}
+use mathlib.Core.Path.{_≡_, refl, sym, ap, _∙_}
+use mathlib.Core.Logic.{_≢_, inl, inr}
+use mathlib.Core.Bool.{Bool, true, false, _&&_, _||_, not}
+use mathlib.Core.List.{List, [], _∷_}
+use mathlib.Core.Option.{Option, none, some}
+use native.Mathlib.Omega.{arith}
+use lib.ListN.{length, take}
+use lib.Dec.{eqb, ltb}
+use borrow.Author.Tests.{ltb-true, eqb-false, not-false, lt-ltb}
+use borrow.Rule.Slice.PartMut.{putMid, midOf}
+use types.Run.{OneOf, miss}
+use denote.Enum.Declared.{tagOf}
+use Rattle.rules.proofs.Place as the-place
+use Rattle.rules.specs.declared.Stage.{Stage}
+use Rattle.rules.specs.declared.Stage.the-variants.{Zero, One, Two}
+use Rattle.rules.specs.declared.Model.{Model}
+use Rattle.rules.specs.declared.Model.the-variants.{Default, WriteOnce, Counter, Receiver}
+use Rattle.rules.specs.declared.Unit.{Unit}
+use Rattle.rules.specs.declared.Session.{Session}
+use Rattle.rules.specs.declared.Place.{Place}
+use Rattle.rules.specs.declared.Place.the-variants.{Header, Hidden, RegisterOf, Pins, Readers}
+use Rattle.rules.specs.declared.Place.the-variants.{UnitOf, Spare, Segment, Public}
+use Rattle.rules.specs.declared.Refusal.{Refusal}
+use Rattle.rules.specs.Bytes.{byte, part, put, same}
+use Rattle.rules.specs.Map.{sound, segments, placeOf, unitAt}
+use Rattle.rules.specs.Units.{unitOf, unitBytes, wellFormed, nameOf}
+use Rattle.rules.specs.State.{Cipher, State, state}
+use Rattle.rules.specs.Answers.{numberOf, refusalOf}
+use Rattle.rules.specs.Refusals.{Checks, _when_else_, granted, lowest, segmentReadChecks, unitReadChecks, readChecks}
+use Rattle.rules.specs.Refusals.{advanceChecks, canAdvance, isReceiver}
+use Rattle.rules.specs.Effects.{apply, advanceStores, advanced}
+use Rattle.rules.specs.Command.{read, advance, checks, refusal, inPlace, reply, replyBy, grant, filled}
+use Rattle.rules.specs.Command.{after, afterBy, stores, newSession}
+use Rattle.rules.specs.Claims.{Applies}
+use Rattle.rules.proofs.Tests.{true-false, some-none, or-false, passes, gives, leaves, none-applies, joined-three}
+use Rattle.rules.proofs.BytesLaws.{length-put}
+use Rattle.rules.proofs.MapLaws.{sizes}
+use Rattle.rules.proofs.Places.{the-map}
+use Rattle.rules.proofs.Grants.{reply-is}
+use Rattle.rules.proofs.Refused.{lowest-given, read-not-11, refused-stays}
+use Rattle.octets.proofs.Laws.{part-lent, put-back}
+use Rattle.units.specs.declared.Decoded.the-variants.{Unit as Whole}
+use Rattle.units.specs.Decoded.{decoded, movedTo}
+use Rattle.units.proofs.Laws.{decoded-whole, moved-advanced}
+use Rattle.commands.specs.declared.Move.{Move}
+use Rattle.commands.specs.declared.Move.the-variants.{Advance, Refuse}
+use Rattle.commands.specs.Verdict.{rights, MoveJudged, moveAnswer}
+use Rattle.commands.proofs.UnitLaws.{formed, UnitInside, unit-inside, unit-length, unit-byte}
+
+-- ---- reads of a segment and of a unit
+
+pub segment-read-by : (i : ℕ) (name u : List ℕ) (x : Unit) (named : Bool) → decoded u ≡ Whole x
+    → named ≡ same name (nameOf u)
+    → lowest (rights (not (x .rd)) (x .rdpin && not (eqb i (x .read))) (x .pn && not named))
+    ≡ lowest (segmentReadChecks i name u)
+unfolding segmentReadChecks
+segment-read-by i name u x named e f = rw (decoded-whole u x e .1, f) (sym (formed u x _ e))
+
+pub unit-read-by : (u : List ℕ) (o : ℕ) (x : Unit) → decoded u ≡ Whole x
+    → lowest (unitReadChecks u o) ≡ lowest (6 when x .pn && ltb 16 o else granted)
+unfolding unitReadChecks
+unit-read-by u o x e = formed u x _ e ∙ rw (decoded-whole u x e .1)
+
+-- the variants of `Place` that any read may have, and those that no read may have
+pub readable : (s : State) (p : Place) (a n : ℕ) → OneOf (0 ∷ 4 ∷ 8 ∷ []) (tagOf the-place.the-type p)
+    → lowest (readChecks s p a n) ≡ none
+unfolding readChecks
+readable s Header a n o = none-applies
+readable s Hidden a n o = absurd (miss (0 ∷ 4 ∷ 8 ∷ []) 1 tt o)
+readable s (RegisterOf r) a n o = absurd (miss (0 ∷ 4 ∷ 8 ∷ []) 2 tt o)
+readable s Pins a n o = absurd (miss (0 ∷ 4 ∷ 8 ∷ []) 3 tt o)
+readable s Readers a n o = none-applies
+readable s (UnitOf k) a n o = absurd (miss (0 ∷ 4 ∷ 8 ∷ []) 5 tt o)
+readable s Spare a n o = absurd (miss (0 ∷ 4 ∷ 8 ∷ []) 6 tt o)
+readable s (Segment k) a n o = absurd (miss (0 ∷ 4 ∷ 8 ∷ []) 7 tt o)
+readable s (Public k) a n o = none-applies
+
+pub unreadable : (s : State) (p : Place) (a n : ℕ) → OneOf (1 ∷ 2 ∷ 3 ∷ 6 ∷ []) (tagOf the-place.the-type p)
+    → lowest (readChecks s p a n) ≡ some 4
+unfolding readChecks
+unreadable s Header a n o = absurd (miss (1 ∷ 2 ∷ 3 ∷ 6 ∷ []) 0 tt o)
+unreadable s Hidden a n o = gives 4 true granted refl
+unreadable s (RegisterOf r) a n o = gives 4 true granted refl
+unreadable s Pins a n o = gives 4 true granted refl
+unreadable s Readers a n o = absurd (miss (1 ∷ 2 ∷ 3 ∷ 6 ∷ []) 4 tt o)
+unreadable s (UnitOf k) a n o = absurd (miss (1 ∷ 2 ∷ 3 ∷ 6 ∷ []) 5 tt o)
+unreadable s Spare a n o = gives 4 true granted refl
+unreadable s (Segment k) a n o = absurd (miss (1 ∷ 2 ∷ 3 ∷ 6 ∷ []) 7 tt o)
+unreadable s (Public k) a n o = absurd (miss (1 ∷ 2 ∷ 3 ∷ 6 ∷ []) 8 tt o)
+
+-- the unit that is read, and the unit of the segment that is read
+pub unit-read-in : (t : List ℕ) (v : Session) (p : Place) (k a n : ℕ) (u : List ℕ) → u ≡ unitBytes t k → p ≡ UnitOf k
+    → lowest (unitReadChecks u (a + n - unitAt k)) ≡ lowest (readChecks (state t v) p a n)
+unfolding readChecks
+unit-read-in t v p k a n u e f = rw (e, f)
+
+pub segment-read-in : (t : List ℕ) (v : Session) (p : Place) (k a n : ℕ) (u : List ℕ) → u ≡ unitBytes t k
+    → p ≡ Segment k → lowest (segmentReadChecks (v .read) (v .name) u) ≡ lowest (readChecks (state t v) p a n)
+unfolding readChecks
+segment-read-in t v p k a n u e f = rw (e, f)
+
+-- ---- the checks before those of a place
+
+-- 2, by the tests on the count of a read
+abbrev pub miscounted : (n room : ℕ) → Bool
+miscounted n room = (eqb n 0 || ltb 4096 n) || ltb room n
+
+placed-nowhere : (f : Place → Checks) → lowest (inPlace none f) ≡ some 3
+unfolding inPlace
+placed-nowhere f = gives 3 true granted refl
+
+module _ (E : Cipher) (s : State) (a n room : ℕ) where
+  pub read-miscounted : sound (s .tag) ≡ true → miscounted n room ≡ true
+      → refusal E s (read a n room) ≡ some 2
+  unfolding refusal checks
+  read-miscounted w e = leaves 1 _ _ (ap not w) ∙ joined-three 2 _ _ _ _ ∙ gives 2 _ _ e
+
+  read-counted : sound (s .tag) ≡ true → miscounted n room ≡ false
+      → refusal E s (read a n room) ≡ lowest (inPlace (placeOf (s .tag) a n) (λ p. readChecks s p a n))
+  unfolding refusal checks
+  read-counted w e = leaves 1 _ _ (ap not w) ∙ joined-three 2 _ _ _ _ ∙ leaves 2 _ _ e
+
+  pub read-outside : sound (s .tag) ≡ true → miscounted n room ≡ false
+      → placeOf (s .tag) a n ≡ none → refusal E s (read a n room) ≡ some 3
+  read-outside w e f = read-counted w e ∙ rw f (placed-nowhere _)
+
+  pub read-placed : (p : Place) → sound (s .tag) ≡ true → miscounted n room ≡ false
+      → placeOf (s .tag) a n ≡ some p → refusal E s (read a n room) ≡ lowest (readChecks s p a n)
+  unfolding inPlace
+  read-placed p w e f = read-counted w e ∙ rw f
+
+  -- ---- what is read lies in the tag, and goes to the start of the output; the state stays
+
+  pub read-inside : sound (s .tag) ≡ true → refusal E s (read a n room) ≡ none
+      → (a + n ≤ length (s .tag)) × (length (s .tag) ≤ 1064960)
+  unfolding refusal checks
+  read-inside w e =
+      let c1 = passes _ _ _ e in
+      let c2 = passes _ _ _ (c1 .1) in
+      let c3 = passes _ _ _ (c2 .1) in
+      let c4 = passes _ _ _ (c3 .1) in
+      (by (placeOf (s .tag) a n) refl (c4 .1), sizes (s .tag) w .largest)
+    where
+      by : (q : Option Place) → placeOf (s .tag) a n ≡ q → lowest (inPlace q (λ p. readChecks s p a n)) ≡ none
+          → a + n ≤ length (s .tag)
+      by none f h = some-none (sym (placed-nowhere _) ∙ h)
+      by (some p) f h = the-map (s .tag) w .in-tag p a n f
+
+  pub read-fills : (out : List ℕ) → refusal E s (read a n room) ≡ none
+      → filled (reply E s (read a n room)) out ≡ put 0 (part a n (s .tag)) out
+  unfolding filled replyBy grant
+  read-fills out e = ap (λ r. filled r out) (reply-is E s (read a n room) none e)
+
+  pub read-stays : after E s (read a n room) ≡ s
+  read-stays = by (refusal E s (read a n room)) refl
+    where
+      by : (r : Option ℕ) → refusal E s (read a n room) ≡ r → after E s (read a n room) ≡ s
+      by none e = unfold after afterBy stores newSession apply in rw e
+      by (some m) e = refused-stays E s (read a n room) m e (read-not-11 E s a n room m e)
+
+pub count-least : (n room : ℕ) → miscounted n room ≡ false → 1 ≤ n
+count-least n room e =
+    let z : n ≢ 0 = eqb-false n 0 (or-false _ _ (or-false _ _ e .0) .0) in omega arith
+
+-- ---- moves of an advance
+
+pub move-refuses : (cs : Checks) (m : Model) (r : Refusal) → lowest cs ≡ some (numberOf r) → MoveJudged cs m (Refuse r)
+move-refuses cs m r e =
+    record { number = sym e; granted = λ g f. let z : _≡_ {A = ℕ} 0 1 = cc in absurd (omega arith) }
+
+pub moves : (cs : Checks) (m : Model) (g : Stage) → lowest cs ≡ none → m ≡ Receiver g → MoveJudged cs m (Advance g)
+moves cs m g e f = record { number = sym e; granted = λ h q. cc }
+
+-- judged by a part of the checks, where the others do not apply
+pub move-judged : (cs ds : Checks) (m n : Model) (v : Move) → lowest ds ≡ lowest cs → n ≡ m → MoveJudged cs m v
+    → MoveJudged ds n v
+move-judged cs ds m n v e f j =
+    record { number = j .number ∙ sym e; granted = λ g q. f ∙ j .granted g q }
+
+pub no-advance : (m : Model) → isReceiver m ≡ false → canAdvance m ≡ false
+unfolding isReceiver canAdvance
+no-advance Default e = refl
+no-advance WriteOnce e = refl
+no-advance Counter e = refl
+no-advance (Receiver g) e = true-false e
+
+pub advance-by : (i : ℕ) (name u : List ℕ) (x : Unit) (named : Bool) → decoded u ≡ Whole x
+    → named ≡ same name (nameOf u)
+    → lowest (advanceChecks i name u)
+    ≡ lowest (6 when false else 7 when x .wrpin && not (eqb i (x .write)) else 8 when x .pn && not named else
+    14 when not (canAdvance (x .model)) else granted)
+unfolding advanceChecks
+advance-by i name u x named e f =
+    formed u x _ e ∙ rw (decoded-whole u x e .1, f) (sym (leaves 6 false _ refl))
+
+advance-formed : (i : ℕ) (name u : List ℕ) → lowest (advanceChecks i name u) ≡ none → wellFormed u ≡ true
+unfolding advanceChecks
+advance-formed i name u e = not-false _ (passes _ _ _ e .0)
+
+-- ---- advances
+
+-- a store at the start of a part is one in the whole
+put-own : (n : ℕ) (t : List ℕ) → put 0 (take n t) t ≡ t
+unfolding put
+put-own n [] = refl
+put-own zero (x ∷ t) = refl
+put-own (suc n) (x ∷ t) = ap (λ l. x ∷ l) (put-own n t)
+
+put-part : (a n : ℕ) (bs t : List ℕ) → length bs ≤ n → put a (put 0 bs (part a n t)) t ≡ put a bs t
+unfolding put part
+put-part a n bs [] h = refl
+put-part (suc a) n bs (x ∷ t) h = ap (λ l. x ∷ l) (put-part a n bs t h)
+put-part zero zero [] (x ∷ t) h = refl
+put-part zero zero (b ∷ bs) (x ∷ t) h = absurd (omega arith)
+put-part zero (suc n) [] (x ∷ t) h = ap (λ l. x ∷ l) (put-own n t)
+put-part zero (suc n) (b ∷ bs) (x ∷ t) h = ap (λ l. b ∷ l) (put-part zero n bs t (omega arith))
+
+put-unit : (t : List ℕ) (k : ℕ) (bs : List ℕ) → length bs ≤ 32
+    → put (unitAt k) (put 0 bs (unitBytes t k)) t ≡ put (unitAt k) bs t
+unfolding unitBytes
+put-unit t k bs h = put-part (unitAt k) 32 bs t h
+
+length-moved : (g : Stage) (u : List ℕ) → length (movedTo g u) ≡ 2
+unfolding movedTo
+length-moved Zero u = refl
+length-moved One u = refl
+length-moved Two u = refl
+
+-- a unit that the test of an advance finds, and the unit as it is lent
+pub unit-counted : (t : List ℕ) (k m : ℕ) → sound t ≡ true → m ≡ segments t → not (ltb k m) ≡ false → UnitInside t k
+unit-counted t k m w e h = unit-inside t k w (rw (← e) (ltb-true k m (not-false _ h)))
+
+pub unit-lent : (t : List ℕ) (k : ℕ) → midOf (unitAt k) (unitAt k + 32 - unitAt k) t ≡ unitBytes t k
+unfolding unitBytes
+unit-lent t k = part-lent (unitAt k) 32 t
+
+module _ (E : Cipher) (s : State) (k : ℕ) where
+  pub advance-outside : (m : ℕ) → sound (s .tag) ≡ true → m ≡ segments (s .tag) → not (ltb k m) ≡ true
+      → refusal E s (advance k) ≡ some 3
+  unfolding refusal checks
+  advance-outside m w e h = leaves 1 _ _ (ap not w) ∙ gives 3 _ _ (rw (← e) h)
+
+  advance-placed : sound (s .tag) ≡ true → k < segments (s .tag)
+      → refusal E s (advance k) ≡ lowest (advanceChecks (s .session .write) (s .session .name) (unitBytes (s .tag) k))
+  unfolding refusal checks
+  advance-placed w h = leaves 1 _ _ (ap not w) ∙ leaves 3 _ _ (ap not (lt-ltb _ _ h))
+
+  advance-not-11 : (m : ℕ) → refusal E s (advance k) ≡ some m → m ≢ 11
+  unfolding checks advanceChecks
+  advance-not-11 m e = by _ _ _ _ _ _ (lowest-given E s (advance k) .lowest-given m e .0)
+    where
+      by : (b₁ b₃ b₅ b₇ b₈ b₁₄ : Bool)
+          → Applies m (
+          1 when b₁ else 3 when b₃ else 5 when b₅ else 7 when b₇ else 8 when b₈ else 14 when b₁₄ else granted)
+          → m ≢ 11
+      by b₁ b₃ b₅ b₇ b₈ b₁₄ (inl x) = λ q. omega (arith, x .0)
+      by b₁ b₃ b₅ b₇ b₈ b₁₄ (inr (inl x)) = λ q. omega (arith, x .0)
+      by b₁ b₃ b₅ b₇ b₈ b₁₄ (inr (inr (inl x))) = λ q. omega (arith, x .0)
+      by b₁ b₃ b₅ b₇ b₈ b₁₄ (inr (inr (inr (inl x)))) = λ q. omega (arith, x .0)
+      by b₁ b₃ b₅ b₇ b₈ b₁₄ (inr (inr (inr (inr (inl x))))) = λ q. omega (arith, x .0)
+      by b₁ b₃ b₅ b₇ b₈ b₁₄ (inr (inr (inr (inr (inr (inl x)))))) = λ q. omega (arith, x .0)
+      by b₁ b₃ b₅ b₇ b₈ b₁₄ (inr (inr (inr (inr (inr (inr x)))))) = absurd x
+
+  pub advance-refused : (m : ℕ) → refusal E s (advance k) ≡ some m → s ≡ after E s (advance k)
+  advance-refused m e = sym (refused-stays E s (advance k) m e (advance-not-11 m e))
+
+  -- the verdict on the unit is that on the command
+  pub advance-judged : (u : List ℕ) (v : Move) → sound (s .tag) ≡ true → k < segments (s .tag)
+      → u ≡ unitBytes (s .tag) k
+      → MoveJudged (advanceChecks (s .session .write) (s .session .name) u) (unitOf u .model) v
+      → refusalOf (moveAnswer v) ≡ refusal E s (advance k)
+  advance-judged u v w h e j =
+      j .number ∙ ap (λ u. lowest (advanceChecks (s .session .write) (s .session .name) u)) e ∙ sym (advance-placed w h)
+
+  advance-granted : (g : Stage) → refusal E s (advance k) ≡ none → unitOf (unitBytes (s .tag) k) .model ≡ Receiver g
+      → state (put (unitAt k) (advanced (Receiver g) (unitBytes (s .tag) k)) (s .tag)) (s .session)
+      ≡ after E s (advance k)
+  unfolding after afterBy stores newSession advanceStores apply
+  advance-granted g e m = rw (e, m)
+
+  -- what an advance of the unit makes of the tag
+  pub advance-moves : (g : Stage) (ys : List ℕ) → sound (s .tag) ≡ true → k < segments (s .tag)
+      → refusal E s (advance k) ≡ none → unitOf (unitBytes (s .tag) k) .model ≡ Receiver g
+      → byte (unitAt k) (s .tag) < 256
+      → ys ≡ put 0 (movedTo g (unitBytes (s .tag) k)) (unitBytes (s .tag) k)
+      → state (putMid (unitAt k) (unitAt k + 32 - unitAt k) (s .tag) ys) (s .session) ≡ after E s (advance k)
+  advance-moves g ys w h e m l q =
+      let t = s .tag in
+      let u = unitBytes t k in
+      let i = unit-inside t k w h .inside in
+      let ms = movedTo g u in
+      let f = advance-formed _ _ u (sym (advance-placed w h) ∙ e) in
+      let b : byte 0 u < 256 = rw (unit-byte t k) l in
+      let back = put-back (unitAt k) 32 t ys (put 0 ms u) q (length-put 0 ms u ∙ unit-length t k u refl i) i in
+      let moved = put-unit t k ms (omega (arith, length-moved g u)) in
+      ap (λ x. state x (s .session)) (back ∙ moved ∙ ap (λ x. put (unitAt k) x t) (moved-advanced u g b f m))
+      ∙ advance-granted g e m

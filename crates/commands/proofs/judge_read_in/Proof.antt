@@ -1,0 +1,102 @@
+-- `commands::judge_read_in` meets its contract: place by place. Assumes nothing.
+use mathlib.Core.Path.{sym, _∙_}
+use native.Mathlib.Omega.{arith}
+use Rattle.commands.proofs.UnitLaws.{unit-found, segment-found, unit-length}
+use Rattle.commands.proofs.ReadLaws.{readable, unreadable, unit-read-in, segment-read-in}
+use borrow.Author.Needs.{needs}
+use Rattle.commands.proofs.judge_read_in.Statement.{statement}
+use Rattle.commands.proofs.judge_read_in.Tie as tie
+
+enum-known-place : tie.Need-enum-known-place
+enum-known-place c = search needs
+
+unit-of-requires : tie.Need-unit-of-requires
+unit-of-requires c κs =
+    let at = c .before .before .before .before in
+    unit-found _ _ _ _ _ (at .pre .0) (at .pre .1) (c .before .place .given .1) .0 .inside
+
+add-judge-unit-read : tie.Need-add-judge-unit-read
+add-judge-unit-read c =
+    let at = c .before .before .before .before .before in
+    let found = unit-found _ _ _ _ _ (at .pre .0) (at .pre .1) (c .before .before .place .given .1) in
+    omega arith
+
+mul-judge-unit-read : tie.Need-mul-judge-unit-read
+mul-judge-unit-read c =
+    let at = c .before .before .before .before .before in
+    let found = unit-found _ _ _ _ _ (at .pre .0) (at .pre .1) (c .before .before .place .given .1) in
+    omega arith
+
+add-judge-unit-read-2 : tie.Need-add-judge-unit-read-2
+add-judge-unit-read-2 c =
+    let at = c .before .before .before .before .before in
+    let found = unit-found _ _ _ _ _ (at .pre .0) (at .pre .1) (c .before .before .place .given .1) in
+    omega arith
+
+sub-judge-unit-read : tie.Need-sub-judge-unit-read
+sub-judge-unit-read c =
+    let at = c .before .before .before .before .before in
+    let found = unit-found _ _ _ _ _ (at .pre .0) (at .pre .1) (c .before .before .place .given .1) in
+    omega arith
+
+judge-unit-read-requires : tie.Need-judge-unit-read-requires
+judge-unit-read-requires c κs =
+    let at = c .before .before .before .before .before in
+    let found = unit-found _ _ _ _ _ (at .pre .0) (at .pre .1) (c .before .before .place .given .1) in
+    unit-length _ _ _ (c .unit-of .ensures) (found .0 .inside)
+
+enum-known-place-2 : tie.Need-enum-known-place-2
+enum-known-place-2 c = search needs
+
+unit-of-requires-2 : tie.Need-unit-of-requires-2
+unit-of-requires-2 c κs =
+    let at = c .before .before .before .before .before in
+    segment-found _ _ _ _ _ (at .pre .0) (at .pre .1) (c .before .before .place2 .given .1) .0 .inside
+
+slice-aggregate-judge-segment-read : tie.Need-slice-aggregate-judge-segment-read
+slice-aggregate-judge-segment-read c = search needs
+
+judge-segment-read-requires : tie.Need-judge-segment-read-requires
+judge-segment-read-requires c κs =
+    let unit = c .before in
+    let told = unit .before .before .before in
+    let at = told .before .before .before in
+    let found = segment-found _ _ _ _ _ (at .pre .0) (at .pre .1) (told .place2 .given .1) in
+    unit-length _ _ _ (unit .unit-of2 .ensures) (found .0 .inside)
+
+returns : tie.Need-returns
+returns c = sym (readable _ _ _ _ (c .match .keys1))
+
+returns-2 : tie.Need-returns-2
+returns-2 c =
+    c .judge-unit-read .ensures
+    ∙ unit-read-in _ _ _ _ _ _ _ (c .before .unit-of .ensures) (c .before .before .before .place .given .1)
+
+returns-3 : tie.Need-returns-3
+returns-3 c =
+    let unit = c .before .before in
+    c .judge-segment-read .ensures
+    ∙ segment-read-in _ _ _ _ _ _ _ (unit .unit-of2 .ensures) (unit .before .before .before .place2 .given .1)
+
+returns-4 : tie.Need-returns-4
+returns-4 c = sym (unreadable _ _ _ _ (c .match .keys4))
+
+pub judge-read-in-spec : {M : Type 1} → statement M
+judge-read-in-spec =
+    tie.close
+    (tie.spec
+    enum-known-place
+    unit-of-requires
+    add-judge-unit-read
+    mul-judge-unit-read
+    add-judge-unit-read-2
+    sub-judge-unit-read
+    judge-unit-read-requires
+    enum-known-place-2
+    unit-of-requires-2
+    slice-aggregate-judge-segment-read
+    judge-segment-read-requires
+    returns
+    returns-2
+    returns-3
+    returns-4)

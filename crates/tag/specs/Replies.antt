@@ -1,0 +1,37 @@
+-- What the functions of `tag` hand each other in a run over a log. The public contracts do not cite it.
+use Prim.Native.Nat.{ℕ}
+use mathlib.Core.Path.{_≡_}
+use mathlib.Core.List.{List}
+use mathlib.Core.Option.{Option, none, some}
+use lib.ListN.{length}
+use Rattle.rules.specs.declared.Session.{Session}
+use Rattle.rules.specs.declared.Stop.{Stop}
+use Rattle.rules.specs.declared.Run.{Run}
+use Rattle.rules.specs.Bytes.{put}
+use Rattle.rules.specs.State.{Cipher, State, state}
+use Rattle.rules.specs.Command.{Command, Reply, refused, reply, after}
+use Rattle.rules.specs.Log.{encoded}
+use Rattle.tag.specs.declared.Replied.{Replied}
+
+-- what is replied to the command that comes next, with the length of its body, and the state after it; `none` is a 15
+abbrev pub replyFor : Cipher → State → Option (Command × ℕ) → Reply
+replyFor E s none = refused 15
+replyFor E s (some x) = reply E s (x .0)
+
+abbrev pub afterFor : Cipher → State → Option (Command × ℕ) → State
+afterFor E s none = s
+afterFor E s (some x) = after E s (x .0)
+
+-- the reply r at the start of the output: o is left of `out`, and n is the length of the reply
+pub record Written (r : Reply) (out o : List ℕ) (n : ℕ) : Type 0 where
+  pub bytes : o ≡ put 0 (encoded r) out
+  pub count : n ≡ length (encoded r)
+
+-- the command that comes next, carried out on the state s and replied to: x is handed back, and the tag t and the
+-- output o are left
+pub record Replies (E : Cipher) (s : State) (q : Option (Command × ℕ)) (out t o : List ℕ) (x : Replied) : Type 0 where
+  pub left : state t (x .session) ≡ afterFor E s q
+  pub written : Written (replyFor E s q) out o (x .written)
+
+abbrev pub returned : (read written : ℕ) → Stop → Session → Run
+returned i j q v = record { read = i; written = j; stop = q; session = v }
