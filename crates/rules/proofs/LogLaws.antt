@@ -8,7 +8,6 @@ use native.Mathlib.Omega.{arith}
 use lib.ListN.{length, drop}
 use lib.Dec.{leb}
 use borrow.Author.Tests.{leb-true, le-leb, lt-leb}
-use Rattle.rules.specs.declared.Stop.the-variants.{BadCommand, End, OutputFull}
 use Rattle.rules.specs.State.{Cipher, State}
 use Rattle.rules.specs.Command.{Command, refused, reply, after}
 use Rattle.rules.specs.Run.{replies, final}
@@ -49,24 +48,18 @@ log-is-its-commands E s room =
 
 -- ---- a run to the end
 
-other-stop : {A : Type 0} → BadCommand ≡ End → A
-other-stop e = let z : _≡_ {A = ℕ} 0 1 = cc in absurd (omega arith)
-
-no-room : {A : Type 0} → OutputFull ≡ End → A
-no-room e = let z : _≡_ {A = ℕ} 0 1 = cc in absurd (omega arith)
-
 -- what the run of the rest of a log came to, after a command with room or without
-unreadable-stops : (E : Cipher) (s : State) (room : ℕ) {A : Type 0} → carriedOut E s unreadable room .stop ≡ End → A
+unreadable-stops : (E : Cipher) (s : State) (room : ℕ) {A : Type 0} → carriedOut E s unreadable room .stop ≡ none → A
 unfolding carriedOut stopped
 unreadable-stops E s room {A} e = by (leb 2 room) e
   where
-    by : (b : Bool) → cond b (stopped BadCommand (encoded (refused 15)) s) (stopped OutputFull [] s) .stop ≡ End → A
-    by true f = other-stop f
-    by false f = no-room f
+    by : (b : Bool) → cond b (stopped (some 15) (encoded (refused 15)) s) (stopped (some 16) [] s) .stop ≡ none → A
+    by true f = some-none f
+    by false f = some-none f
 
 -- a command of a run to the end had room
 had-room : (E : Cipher) (s : State) (c : Command) (n : ℕ) (p : Parsed) (room : ℕ)
-    → carriedOut E s (c taking n then p) room .stop ≡ End
+    → carriedOut E s (c taking n then p) room .stop ≡ none
     → carriedOut E s (c taking n then p) room
     ≡ onward n (encoded (reply E s c)) (carriedOut E (after E s c) p (room - length (encoded (reply E s c))))
 unfolding carriedOut stopped
@@ -75,12 +68,12 @@ had-room E s c n p room e = by (leb (roomFor c) room) e
     rest : Ran
     rest = onward n (encoded (reply E s c)) (carriedOut E (after E s c) p (room - length (encoded (reply E s c))))
 
-    by : (b : Bool) → cond b rest (stopped OutputFull [] s) .stop ≡ End → cond b rest (stopped OutputFull [] s) ≡ rest
+    by : (b : Bool) → cond b rest (stopped (some 16) [] s) .stop ≡ none → cond b rest (stopped (some 16) [] s) ≡ rest
     by true f = refl
-    by false f = no-room f
+    by false f = some-none f
 
 -- its output and end state are those of the list
-pub run-is-list : (E : Cipher) (s : State) (p : Parsed) (room : ℕ) → carriedOut E s p room .stop ≡ End
+pub run-is-list : (E : Cipher) (s : State) (p : Parsed) (room : ℕ) → carriedOut E s p room .stop ≡ none
     → (carriedOut E s p room .output ≡ encodedAll (replies E s (commandsOf p)))
     × (carriedOut E s p room .state ≡ final E s (commandsOf p))
 unfolding onward commandsOf encodedAll replies final
@@ -108,7 +101,7 @@ body-fits (some k) body c n e = by (leb (bodyLength k) (length body)) refl e
 
 -- it reads the whole log
 pub run-reads-all : (E : Cipher) (s : State) (skip : ℕ) (log : List ℕ) (room : ℕ) → skip ≤ length log
-    → carriedOut E s (parsed skip log) room .stop ≡ End
+    → carriedOut E s (parsed skip log) room .stop ≡ none
     → carriedOut E s (parsed skip log) room .taken + skip ≡ length log
 unfolding parsed parsedBy first onward
 run-reads-all E s zero [] room h e = (unfold carriedOut stopped in refl)
@@ -119,8 +112,8 @@ run-reads-all E s zero (b ∷ body) room h e =
     by (first b body) refl e (λ s n room l f. run-reads-all E s n body room l f)
   where
     by : (o : Option (Command × ℕ)) → first b body ≡ o
-        → carriedOut E s (parsedBy o (λ n. parsed n body)) room .stop ≡ End
-        → ((s : State) (n room : ℕ) → n ≤ length body → carriedOut E s (parsed n body) room .stop ≡ End
+        → carriedOut E s (parsedBy o (λ n. parsed n body)) room .stop ≡ none
+        → ((s : State) (n room : ℕ) → n ≤ length body → carriedOut E s (parsed n body) room .stop ≡ none
         → carriedOut E s (parsed n body) room .taken + n ≡ length body)
         → carriedOut E s (parsedBy o (λ n. parsed n body)) room .taken + 0 ≡ length (b ∷ body)
     by none q f later = unreadable-stops E s room f

@@ -11,7 +11,6 @@ use native.Mathlib.Nat.{add-assoc, add-suc, suc-add, zero-add, sub-zero}
 use lib.ListN.{length, drop, length-append}
 use lib.Dec.{eqb, leb}
 use borrow.Author.Tests.{leb-true, leb-false, le-leb}
-use Rattle.rules.specs.declared.Stop.the-variants.{BadCommand, End, OutputFull}
 use Rattle.rules.specs.Bytes.{part}
 use Rattle.rules.specs.State.{Cipher, State}
 use Rattle.rules.specs.Command.{Command, Reply, read, write, advance, powerUp, done, gives, refused, refusal, grant, reply, replyBy, after}
@@ -128,7 +127,7 @@ run-fits E s end room h = omega arith
 run-fits E s unreadable room h = by (leb 2 room) refl
   where
     by : (b : Bool) → leb 2 room ≡ b
-        → length (cond b (stopped BadCommand (encoded (refused 15)) s) (stopped OutputFull [] s) .output) ≤ room
+        → length (cond b (stopped (some 15) (encoded (refused 15)) s) (stopped (some 16) [] s) .output) ≤ room
     by true e = leb-true 2 room e
     by false e = omega arith
 run-fits E s (c taking n then p) room h =
@@ -138,7 +137,7 @@ run-fits E s (c taking n then p) room h =
     rest = carriedOut E (after E s c) p (room - length (encoded (reply E s c)))
 
     by : (b : Bool) → leb (roomFor c) room ≡ b → length (rest .output) ≤ room - length (encoded (reply E s c))
-        → length (cond b (onward n (encoded (reply E s c)) rest) (stopped OutputFull [] s) .output) ≤ room
+        → length (cond b (onward n (encoded (reply E s c)) rest) (stopped (some 16) [] s) .output) ≤ room
     by true e x =
         let l = leb-true (roomFor c) room e in
         let f = reply-fits E s c (h .0) in
@@ -156,12 +155,12 @@ run-reads E s (suc skip) (b ∷ log) room h = let x = run-reads E s skip log roo
 run-reads E s zero (b ∷ body) room h = by (first b body) refl (λ s n room l. run-reads E s n body room l)
   where
     none-read : (t : Bool)
-        → cond t (stopped BadCommand (encoded (refused 15)) s) (stopped OutputFull [] s) .taken + 0 ≤ length (b ∷ body)
+        → cond t (stopped (some 15) (encoded (refused 15)) s) (stopped (some 16) [] s) .taken + 0 ≤ length (b ∷ body)
     none-read true = omega arith
     none-read false = omega arith
 
     some-read : (t : Bool) (n : ℕ) (out : List ℕ) (x : Ran) → x .taken + n ≤ length body
-        → cond t (onward (1 + n) out x) (stopped OutputFull [] s) .taken + 0 ≤ length (b ∷ body)
+        → cond t (onward (1 + n) out x) (stopped (some 16) [] s) .taken + 0 ≤ length (b ∷ body)
     some-read true n out x l = omega arith
     some-read false n out x l = omega arith
 
@@ -195,7 +194,7 @@ Continued E skip log x more =
     (carriedOut E (x .state) (parsed 0 (drop (skip + x .taken) log)) (more - length (x .output)))
 
 continue-none : (E : Cipher) (s : State) (log : List ℕ) (more : ℕ)
-    → carriedOut E s (parsed 0 log) more ≡ Continued E 0 log (stopped OutputFull [] s) more
+    → carriedOut E s (parsed 0 log) more ≡ Continued E 0 log (stopped (some 16) [] s) more
 unfolding stopped
 continue-none E s log more = sym (rw sub-zero (onward-none _))
 
@@ -207,17 +206,14 @@ continue-on E b n body out y more =
     let f : more - length out - length (y .output) ≡ more - (length out + length (y .output)) = omega arith in
     onward-twice (1 + n) (y .taken) out (y .output) _ ∙ sym (rw (e, length-append out (y .output), ← f))
 
-not-full : {A : Type 0} → BadCommand ≡ OutputFull → A
-not-full e = let z : _≡_ {A = ℕ} 0 1 = cc in absurd (omega arith)
-
-not-full-end : {A : Type 0} → End ≡ OutputFull → A
-not-full-end e = let z : _≡_ {A = ℕ} 0 1 = cc in absurd (omega arith)
+not-full : {A : Type 0} → _≡_ {A = Option ℕ} (some 15) (some 16) → A
+not-full e = let z : _≡_ {A = ℕ} 15 16 = same-some e in absurd (omega arith)
 
 run-continues : (E : Cipher) (s : State) (skip : ℕ) (log : List ℕ) (room more : ℕ) → room ≤ more
-    → carriedOut E s (parsed skip log) room .stop ≡ OutputFull
+    → carriedOut E s (parsed skip log) room .stop ≡ some 16
     → carriedOut E s (parsed skip log) more ≡ Continued E skip log (carriedOut E s (parsed skip log) room) more
 unfolding parsed parsedBy carriedOut stopped
-run-continues E s skip [] room more h e = not-full-end e
+run-continues E s skip [] room more h e = some-none (sym e)
 run-continues E s (suc skip) (b ∷ log) room more h e =
     let f : suc skip + carriedOut E s (parsed skip log) room .taken ≡ suc (skip + carriedOut E s (parsed skip log) room .taken) = omega arith in
     rw f (run-continues E s skip log room more h e)
@@ -228,18 +224,18 @@ run-continues E s zero (b ∷ body) room more h e =
     whole o room = carriedOut E s (parsedBy o (λ n. parsed n body)) room
 
     full : (o : Option (Command × ℕ)) → first b body ≡ o
-        → whole o more ≡ Continued E 0 (b ∷ body) (stopped OutputFull [] s) more
+        → whole o more ≡ Continued E 0 (b ∷ body) (stopped (some 16) [] s) more
     full o q = ap (λ o. whole o more) (sym q) ∙ continue-none E s (b ∷ body) more
 
     at-15 : (t : Bool) → first b body ≡ none
-        → cond t (stopped BadCommand (encoded (refused 15)) s) (stopped OutputFull [] s) .stop ≡ OutputFull
+        → cond t (stopped (some 15) (encoded (refused 15)) s) (stopped (some 16) [] s) .stop ≡ some 16
         → whole none more
-        ≡ Continued E 0 (b ∷ body) (cond t (stopped BadCommand (encoded (refused 15)) s) (stopped OutputFull [] s)) more
+        ≡ Continued E 0 (b ∷ body) (cond t (stopped (some 15) (encoded (refused 15)) s) (stopped (some 16) [] s)) more
     at-15 true q f = not-full f
     at-15 false q f = full none q
 
-    by : (o : Option (Command × ℕ)) → first b body ≡ o → whole o room .stop ≡ OutputFull
-        → ((s : State) (n room more : ℕ) → room ≤ more → carriedOut E s (parsed n body) room .stop ≡ OutputFull
+    by : (o : Option (Command × ℕ)) → first b body ≡ o → whole o room .stop ≡ some 16
+        → ((s : State) (n room more : ℕ) → room ≤ more → carriedOut E s (parsed n body) room .stop ≡ some 16
         → carriedOut E s (parsed n body) more ≡ Continued E n body (carriedOut E s (parsed n body) room) more)
         → whole o more ≡ Continued E 0 (b ∷ body) (whole o room) more
     by none q f later = at-15 (leb 2 room) q f
@@ -252,9 +248,9 @@ run-continues E s zero (b ∷ body) room more h e =
         y = carriedOut E (after E s c) (parsed n body) (room - length out)
 
         at-command : (t : Bool) → leb (roomFor c) room ≡ t
-            → cond t (onward (1 + n) out y) (stopped OutputFull [] s) .stop ≡ OutputFull
+            → cond t (onward (1 + n) out y) (stopped (some 16) [] s) .stop ≡ some 16
             → whole (some (c, n)) more
-            ≡ Continued E 0 (b ∷ body) (cond t (onward (1 + n) out y) (stopped OutputFull [] s)) more
+            ≡ Continued E 0 (b ∷ body) (cond t (onward (1 + n) out y) (stopped (some 16) [] s)) more
         at-command true l g =
             let m = leb-true (roomFor c) room l in
             rw (le-leb (roomFor c) more (omega arith))

@@ -7,6 +7,7 @@ use native.Mathlib.Omega.{arith}
 use lib.ListN.{length, drop}
 use Rattle.rules.specs.Bytes.{part, put}
 use Rattle.rules.specs.Map.{sound}
+use Rattle.rules.specs.Answers.{stopNumber}
 use Rattle.rules.specs.State.{Cipher, State, state}
 use Rattle.rules.specs.Command.{reply}
 use Rattle.rules.specs.Run.{final, replies}
@@ -25,10 +26,10 @@ module _ (E : Cipher) (s : State) where
   unfolding runOver resultOf
   runs-leave log out r t o e =
       let x = runLog E s log (length out) in
-      let w : r .written ≡ length (x .output) = ap (λ q. q .returned .written) e in
+      let w : r .written ≡ length (x .output) = ap (λ q. q .written) e in
       let f : length (x .output) ≤ length out = unfold runLog in run-fits E s (parsed 0 log) (length out) (each-of 0 log) in
       let n : x .taken + 0 ≤ length log = unfold runLog in run-reads E s 0 log (length out) (omega arith) in
-      let i : r .read ≡ x .taken = ap (λ q. q .returned .read) e in
+      let i : r .read ≡ x .taken = ap (λ q. q .read) e in
       let b : o ≡ put 0 (x .output) out = ap (λ q. q .output) e in
       record {
         read-within = omega arith;
@@ -45,11 +46,11 @@ module _ (E : Cipher) (s : State) where
       × (state t (r .session) ≡ final E s (commands log))
   unfolding runOver resultOf
   run-is-list log r t o h =
-      let x = is-list E s log (length (h .out)) (sym (ap (λ q. q .returned .stop) (h .met)) ∙ h .ended) in (
-        ap (λ q. q .returned .read) (h .met) ∙ x .0,
+      let x = is-list E s log (length (h .out)) (sym (ap (λ q. q .stop) (h .met)) ∙ ap stopNumber (h .ended)) in (
+        ap (λ q. q .read) (h .met) ∙ x .0,
         ap (answersIn 0) (runs-leave log (h .out) r t o (h .met) .replied ∙ x .1)
             ∙ replies-back E s (parsed 0 log) (each-of 0 log),
-        ap (λ q. state (q .tag) (q .returned .session)) (h .met) ∙ x .2,
+        ap (λ q. state (q .tag) (q .session)) (h .met) ∙ x .2,
       )
 
   pub runs-demand-3 : sound (s .tag) ≡ true → RunsDemand3 E s

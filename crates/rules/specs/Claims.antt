@@ -12,7 +12,6 @@ use Rattle.rules.specs.declared.Model.the-variants.{Default, WriteOnce, 
 use Rattle.rules.specs.declared.Place.{Place}
 use Rattle.rules.specs.declared.Place.the-variants.{Spare, Segment}
 use Rattle.rules.specs.declared.Refusal.{Refusal}
-use Rattle.rules.specs.declared.Stop.the-variants.{End, BadCommand, OutputFull}
 use Rattle.rules.specs.Bytes.{byte, put, part}
 use Rattle.rules.specs.Map.{Row, row, rows, segments, publics, placeOf, flag, sound}
 use Rattle.rules.specs.Units.{unitBytes, unitOf, bit}
@@ -146,16 +145,16 @@ OneAnswerEach E s cs = length (replies E s cs) ≡ length cs
 -- ---- a log is its commands, one after another
 
 pub record LogIsItsCommands (E : Cipher) (s : State) (room : ℕ) : Type 0 where
-  pub at-end : runLog E s [] room ≡ stopped End [] s
+  pub at-end : runLog E s [] room ≡ stopped none [] s
   pub at-15 : (b : ℕ) (body : List ℕ) → first b body ≡ none → 2 ≤ room
-      → runLog E s (b ∷ body) room ≡ stopped BadCommand (encoded (refused 15)) s
+      → runLog E s (b ∷ body) room ≡ stopped (some 15) (encoded (refused 15)) s
   pub no-room-15 : (b : ℕ) (body : List ℕ) → first b body ≡ none → room < 2
-      → runLog E s (b ∷ body) room ≡ stopped OutputFull [] s
+      → runLog E s (b ∷ body) room ≡ stopped (some 16) [] s
   pub at-command : (b : ℕ) (body : List ℕ) (c : Command) (n : ℕ) → first b body ≡ some (c, n) → roomFor c ≤ room
       → runLog E s (b ∷ body) room
       ≡ onward (1 + n) (encoded (reply E s c))
       (runLog E (after E s c) (drop n body) (room - length (encoded (reply E s c))))
   pub no-room : (b : ℕ) (body : List ℕ) (c : Command) (n : ℕ) → first b body ≡ some (c, n) → room < roomFor c
-      → runLog E s (b ∷ body) room ≡ stopped OutputFull [] s
+      → runLog E s (b ∷ body) room ≡ stopped (some 16) [] s
   pub its-commands : (b : ℕ) (body : List ℕ) (c : Command) (n : ℕ) → first b body ≡ some (c, n)
       → commands (b ∷ body) ≡ c ∷ commands (drop n body)

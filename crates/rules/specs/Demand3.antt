@@ -5,10 +5,10 @@ use mathlib.Core.Path.{_≡_}
 use mathlib.Core.Logic.{_≢_}
 use mathlib.Core.Bool.{true, _&&_, cond}
 use mathlib.Core.List.{List, [], _∷_, _++_, List·Memᴰ}
+use mathlib.Core.Option.{none}
 use lib.ListN.{length}
 use lib.Dec.{eqb}
 use Rattle.rules.specs.declared.Model.the-variants.{Counter}
-use Rattle.rules.specs.declared.Stop.the-variants.{End}
 use Rattle.rules.specs.Bytes.{number, part}
 use Rattle.rules.specs.Map.{segments, slotAt, publics, segmentAt}
 use Rattle.rules.specs.Units.{wellFormed, unitBytes, unitOf}
@@ -159,7 +159,7 @@ pub record Demand3 (E : Cipher) (s : State) : Type 0 where
 -- stops the run, with or without the copies and in either order."
 
 abbrev pub Ends : Cipher → State → (log : List ℕ) (room : ℕ) → Type 0
-Ends E s log room = runLog E s log room .stop ≡ End
+Ends E s log room = runLog E s log room .stop ≡ none
 
 -- the run is that of the list: it reads the whole log, its output is the answers, and its end state is the list's
 abbrev pub IsList : Cipher → State → (log : List ℕ) (room : ℕ) → Type 0

@@ -4,9 +4,8 @@ use mathlib.Core.Path.{_≡_}
 use mathlib.Core.Logic.{_≢_}
 use mathlib.Core.Bool.{true}
 use mathlib.Core.List.{List, [], _∷_, _++_, map}
+use mathlib.Core.Option.{Option, none}
 use lib.ListN.{replicate}
-use Rattle.rules.specs.declared.Stop.{Stop}
-use Rattle.rules.specs.declared.Stop.the-variants.{End}
 use Rattle.rules.specs.Bytes.{put, xor}
 use Rattle.rules.specs.Map.{registerAt, sound}
 use Rattle.rules.specs.State.{Cipher, State, poweredUp, withPa}
@@ -41,11 +40,11 @@ naming high low t = record { tag = t; session = withPa (high ∷ low ∷ replica
 -- run in `room` bytes
 pub data Example : Type 0 where
   sends : State → List Command → List Reply → Example
-  runs : (room : ℕ) → State → List ℕ → (taken : ℕ) → List ℕ → Stop → Example
+  runs : (room : ℕ) → State → List ℕ → (taken : ℕ) → List ℕ → (stop : Option ℕ) → Example
 
 pub data Got : Type 0 where
   answers : List Reply → Got
-  ran : ℕ → List ℕ → Stop → Got
+  ran : ℕ → List ℕ → Option ℕ → Got
 
 unfoldable pub got : Example → Got
 got (sends s cs rs) = answers (replies xorCipher s cs)
@@ -63,7 +62,7 @@ unfoldable pub starred : List Example
 starred =
     runs 12 (begin counterTag)
     (0x22 ∷ 0 ∷ 0 ∷ 0x40 ∷ 0 ∷ eight 0 1 ++ 0x22 ∷ 0 ∷ 0 ∷ 0x40 ∷ 0 ∷ eight 0 1 ++ 0x12 ∷ 0 ∷ 0 ∷ 0x40 ∷ 0 ∷ [])
-    31 (0x50 ∷ 0x51 ∷ 0x0C ∷ 0x42 ∷ eight 0 1) End
+    31 (0x50 ∷ 0x51 ∷ 0x0C ∷ 0x42 ∷ eight 0 1) none
     ∷ sends (begin (put 16384 (eight 0 255) counterTag)) (write 16384 (eight 1 0) ∷ []) (done ∷ [])
     ∷ sends (begin (put 16384 (eight 0 255) counterTag)) (write 16384 (eight 1 1) ∷ []) (refused 12 ∷ [])
     ∷ sends (begin (put 16384 (replicate 8 255) counterTag)) (write 16384 (replicate 8 0) ∷ []) (refused 12 ∷ [])

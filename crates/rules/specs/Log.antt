@@ -5,8 +5,6 @@ use mathlib.Core.List.{List, [], _∷_, _++_}
 use mathlib.Core.Option.{Option, none, some}
 use lib.ListN.{length}
 use lib.Dec.{eqb, leb}
-use Rattle.rules.specs.declared.Stop.{Stop}
-use Rattle.rules.specs.declared.Stop.the-variants.{End, BadCommand, OutputFull}
 use Rattle.rules.specs.Bytes.{number, part}
 use Rattle.rules.specs.State.{State, Cipher}
 use Rattle.rules.specs.Command.{advance, read, write, Command, powerUp, Reply, done, gives, refused, reply, after}
@@ -106,16 +104,16 @@ roomFor (advance k) = 2
 roomFor powerUp = 2
 
 -- ---- the run: "returns bytes read .., bytes written, the stop (end, 15, 16) and the session"; the bytes written are
--- `output`
+-- `output`, and the end is `none`
 
 pub record Ran : Type 0 where
   pub taken : ℕ
   pub output : List ℕ
-  pub stop : Stop
+  pub stop : Option ℕ
   pub state : State
 
 -- the run stops here, after the last bytes written
-unfoldable pub stopped : Stop → List ℕ → State → Ran
+unfoldable pub stopped : Option ℕ → List ℕ → State → Ran
 stopped x out s = record { taken = 0; output = out; stop = x; state = s }
 
 -- a run goes on after a command that took n bytes and wrote these
@@ -125,13 +123,13 @@ onward n out r = record { taken = n + r .taken; output = out ++ r .output; stop 
 -- "A 15 is replied and ends the run. .. otherwise the run stops with 16, which is returned and not written, and the
 -- command isn't carried out."
 unfoldable pub carriedOut : Cipher → State → Parsed → (room : ℕ) → Ran
-carriedOut E s end room = stopped End [] s
+carriedOut E s end room = stopped none [] s
 carriedOut E s unreadable room =
-    cond (leb 2 room) (stopped BadCommand (encoded (refused 15)) s) (stopped OutputFull [] s)
+    cond (leb 2 room) (stopped (some 15) (encoded (refused 15)) s) (stopped (some 16) [] s)
 carriedOut E s (c taking n then p) room =
     cond (leb (roomFor c) room)
     (onward n (encoded (reply E s c)) (carriedOut E (after E s c) p (room - length (encoded (reply E s c)))))
-    (stopped OutputFull [] s)
+    (stopped (some 16) [] s)
 
 unfoldable pub runLog : Cipher → State → List ℕ → (room : ℕ) → Ran
 runLog E s log room = carriedOut E s (parsed 0 log) room

@@ -2,8 +2,8 @@
 -- taken. docs/DECISIONS.md has each question under the name used here. Assumes nothing.
 use Prim.Native.Nat.{ℕ}
 use mathlib.Core.List.{List, [], _∷_, _++_}
+use mathlib.Core.Option.{none, some}
 use lib.ListN.{replicate}
-use Rattle.rules.specs.declared.Stop.the-variants.{OutputFull, End, BadCommand}
 use Rattle.rules.specs.Bytes.{put}
 use Rattle.rules.specs.Map.{registerAt}
 use Rattle.rules.specs.State.{withRead, poweredUp}
@@ -160,10 +160,10 @@ defaultModel =
 -- is a 16 and writes nothing; the command that stops the run adds nothing to the bytes read
 unfoldable pub logRoom : List Example
 logRoom =
-    runs 8 (begin counterTag) (0x00 ∷ 0x12 ∷ 0 ∷ 0 ∷ 0 ∷ 16 ∷ []) 1 (0x50 ∷ []) OutputFull
-    ∷ runs 10 (begin counterTag) (0x00 ∷ 0x12 ∷ 0 ∷ 0 ∷ 0 ∷ 16 ∷ []) 6 (0x50 ∷ 0x51 ∷ 4 ∷ []) End
-    ∷ runs 3 (begin counterTag) (0x00 ∷ 0x14 ∷ 0 ∷ 0 ∷ 0 ∷ []) 1 (0x50 ∷ 0x51 ∷ 15 ∷ []) BadCommand
-    ∷ runs 2 (begin counterTag) (0x00 ∷ 0x15 ∷ []) 1 (0x50 ∷ []) OutputFull
+    runs 8 (begin counterTag) (0x00 ∷ 0x12 ∷ 0 ∷ 0 ∷ 0 ∷ 16 ∷ []) 1 (0x50 ∷ []) (some 16)
+    ∷ runs 10 (begin counterTag) (0x00 ∷ 0x12 ∷ 0 ∷ 0 ∷ 0 ∷ 16 ∷ []) 6 (0x50 ∷ 0x51 ∷ 4 ∷ []) none
+    ∷ runs 3 (begin counterTag) (0x00 ∷ 0x14 ∷ 0 ∷ 0 ∷ 0 ∷ []) 1 (0x50 ∷ 0x51 ∷ 15 ∷ []) (some 15)
+    ∷ runs 2 (begin counterTag) (0x00 ∷ 0x15 ∷ []) 1 (0x50 ∷ []) (some 16)
     ∷ []
 
 unfoldable pub readings : List Example

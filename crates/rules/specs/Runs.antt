@@ -4,11 +4,14 @@ use Prim.Native.Nat.{ℕ, zero, suc, _+_, _-_, _≤_, _<_}
 use mathlib.Core.Path.{_≡_}
 use mathlib.Core.Bool.{cond}
 use mathlib.Core.List.{List, [], _∷_, _++_}
+use mathlib.Core.Option.{Option, some}
 use lib.ListN.{length, drop}
 use lib.Dec.{eqb}
 use Rattle.rules.specs.declared.Run.{Run}
-use Rattle.rules.specs.declared.Stop.the-variants.{End, OutputFull}
+use Rattle.rules.specs.declared.Session.{Session}
+use Rattle.rules.specs.declared.Stop.the-variants.{End}
 use Rattle.rules.specs.Bytes.{byte, part, put}
+use Rattle.rules.specs.Answers.{stopNumber}
 use Rattle.rules.specs.State.{Cipher, State, state}
 use Rattle.rules.specs.Command.{Command, Reply, done, gives, refused}
 use Rattle.rules.specs.Run.{final, replies}
@@ -17,21 +20,36 @@ use Rattle.rules.specs.Demand3.{LockedCounter, slot, valueAt, grants, En
 
 -- ---- the contract
 
--- all that a run leaves: what it returns, and every byte of the tag and of the output
+-- all that a run leaves: "bytes read .., bytes written, the stop (end, 15, 16) and the session", and every byte of the
+-- tag and of the output
 pub record Result : Type 0 where
-  pub returned : Run
+  pub read : ℕ
+  pub written : ℕ
+  pub stop : Option ℕ
+  pub session : Session
   pub tag : List ℕ
   pub output : List ℕ
 
+-- of a run that returned r and left the tag t and the output o
 abbrev pub result : Run → (tag output : List ℕ) → Result
-result r t o = record { returned = r; tag = t; output = o }
+result r t o =
+    record {
+      read = r .read;
+      written = r .written;
+      stop = stopNumber (r .stop);
+      session = r .session;
+      tag = t;
+      output = o;
+    }
 
--- "returns bytes read .., bytes written, the stop (end, 15, 16) and the session; output past the bytes written is
--- untouched"
+-- of a run of the rules into the output `out`: "output past the bytes written is untouched"
 unfoldable pub resultOf : Ran → (output : List ℕ) → Result
 resultOf x out =
     record {
-      returned = record { read = x .taken; written = length (x .output); stop = x .stop; session = x .state .session };
+      read = x .taken;
+      written = length (x .output);
+      stop = x .stop;
+      session = x .state .session;
       tag = x .state .tag;
       output = put 0 (x .output) out;
     }
@@ -58,7 +76,7 @@ RunsLeave E s =
 
 abbrev pub RunsContinue : Cipher → State → Type 0
 RunsContinue E s =
-    (log : List ℕ) (room more : ℕ) → runLog E s log room .stop ≡ OutputFull → room ≤ more
+    (log : List ℕ) (room more : ℕ) → runLog E s log room .stop ≡ some 16 → room ≤ more
     → let x = runLog E s log room in
     runLog E s log more
     ≡ onward (x .taken) (x .output) (runLog E (x .state) (drop (x .taken) log) (more - length (x .output)))

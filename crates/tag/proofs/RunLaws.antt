@@ -18,6 +18,7 @@ use Rattle.rules.specs.declared.Stop.{Stop}
 use Rattle.rules.specs.declared.Stop.the-variants.{End, BadCommand, OutputFull}
 use Rattle.rules.specs.Bytes.{byte, put}
 use Rattle.rules.specs.Map.{sound}
+use Rattle.rules.specs.Answers.{stopNumber}
 use Rattle.rules.specs.State.{State, state}
 use Rattle.rules.specs.Command.{Command, read, write, advance, powerUp, refused, reply, after}
 use Rattle.rules.specs.Log.{Ran, first, encoded, roomFor, stopped, onward, runLog}
@@ -57,13 +58,10 @@ sound-same s c = by (sound (s .tag)) refl
 unfoldable pub resultFrom : (i j : ℕ) → Ran → (out : List ℕ) → Result
 resultFrom i j x out =
     record {
-      returned =
-          record {
-            read = i + x .taken;
-            written = j + length (x .output);
-            stop = x .stop;
-            session = x .state .session;
-          };
+      read = i + x .taken;
+      written = j + length (x .output);
+      stop = x .stop;
+      session = x .state .session;
       tag = x .state .tag;
       output = put j (x .output) out;
     }
@@ -80,7 +78,7 @@ from-onward i j n bs x out =
 
 from-stopped : (i j : ℕ) (q : Stop) (bs : List ℕ) (s : State) (out : List ℕ)
     → result (returned i (j + length bs) q (s .session)) (s .tag) (put j bs out)
-    ≡ resultFrom i j (stopped q bs s) out
+    ≡ resultFrom i j (stopped (stopNumber q) bs s) out
 unfolding resultFrom stopped
 from-stopped i j q bs s out = rw add-zero
 
@@ -106,7 +104,7 @@ reply-asked s b body none e = omega arith
 reply-asked s b body (some (c, n)) e = reply-fits E s c (of-log b body c n e)
 
 run-full : (s : State) (b : ℕ) (body : List ℕ) (room : ℕ) (q : Option (Command × ℕ)) → first b body ≡ q
-    → room < roomAsked q → runLog E s (b ∷ body) room ≡ stopped OutputFull [] s
+    → room < roomAsked q → runLog E s (b ∷ body) room ≡ stopped (some 16) [] s
 run-full s b body room none e h = log-is-its-commands E s room .no-room-15 b body e h
 run-full s b body room (some (c, n)) e h = log-is-its-commands E s room .no-room b body c n e h
 
@@ -194,7 +192,7 @@ pub stops-15 : (goal : Result) (log : List ℕ) (tested : Bool) (t out u ys : Li
 stops-15 goal log tested t out u ys v i j x r q g h n e l p d =
     let s = state t v in
     let none-comes : commandAt log i x ≡ none = ap (commandAt log i) e in
-    let b : runLog E s (byte i log ∷ drop (i + 1) log) (length out - j) ≡ stopped BadCommand (encoded (refused 15)) s =
+    let b : runLog E s (byte i log ∷ drop (i + 1) log) (length out - j) ≡ stopped (some 15) (encoded (refused 15)) s =
     log-is-its-commands E s (length out - j) .at-15 _ _ (sym (n .command) ∙ none-comes) (subst (λ y. roomOf y ≤ length out - j) e l) in
     let o = replied-at log t out u ys v i j x r n l p ∙ ap (λ q. put j (encoded (replyFor E s q)) out) none-comes in
     let w = p .written .count ∙ ap (λ q. length (encoded (replyFor E s q))) none-comes in

@@ -35,7 +35,7 @@ next-at-requires : tie.Need-next-at-requires Inv-loop μ-loop
 next-at-requires c κs = c .loop-test .taken
 
 sub-if1 : tie.Need-sub-if1 Inv-loop μ-loop
-sub-if1 c = c .before .before .loop .inv .0 .fits
+sub-if1 c = search needs
 
 room-of-requires : tie.Need-room-of-requires Inv-loop μ-loop
 room-of-requires c κs = c .next-at .ensures .counted
@@ -58,10 +58,10 @@ returns c =
     (n .ensures) full (c .stopped .ensures)
 
 sub-reply-to : tie.Need-sub-reply-to Inv-loop μ-loop
-sub-reply-to c = c .before .before .before .before .before .loop .inv .0 .fits
+sub-reply-to c = search needs
 
 part-reply-to-start : tie.Need-part-reply-to-start Inv-loop μ-loop
-part-reply-to-start c = c .before .before .before .before .before .loop .inv .0 .fits
+part-reply-to-start c = search needs
 
 part-reply-to-end : tie.Need-part-reply-to-end Inv-loop μ-loop
 part-reply-to-end c = search needs
