@@ -1,0 +1,66 @@
+use native.Mathlib.Omega.{arith}
+use Rattle.replay.proofs.Laws.{held}
+use borrow.Author.Needs.{needs}
+use Rattle.replay.proofs.keeping.keep_image.Statement.{statement}
+use Rattle.replay.proofs.keeping.keep_image.Tie as tie
+use Rattle.replay.proofs.keeping.keep_image.Reads as reads
+use Rattle.replay.proofs.keeping.keep_image.Lts as lts
+use Rattle.io.proofs.buffer.Reads as buffer-reads
+use Rattle.replay.proofs.input.argument.Reads as argument-reads
+use Rattle.replay.proofs.keeping.keep_as.Reads as keep-as-reads
+
+buffer-requires : tie.Need-buffer-requires
+buffer-requires c κs = search needs
+
+slice-aggregate-argument : tie.Need-slice-aggregate-argument
+slice-aggregate-argument c = search needs
+
+slice-aggregate-argument-2 : tie.Need-slice-aggregate-argument-2
+slice-aggregate-argument-2 c = search needs
+
+argument-requires : tie.Need-argument-requires
+argument-requires c κs = search needs
+
+enum-known-n : tie.Need-enum-known-n
+enum-known-n c = search needs
+
+enum-told : tie.Need-enum-told
+enum-told c = search needs
+
+returns : tie.Need-returns
+returns c = search needs
+
+array-share-prefix-out : tie.Need-array-share-prefix-out
+array-share-prefix-out c =
+    let got = c .before in
+    held _ _ _ (got .n .given .1) (got .before .before .before .argument .ensures) .0
+
+slice-aggregate-keep-as : tie.Need-slice-aggregate-keep-as
+slice-aggregate-keep-as c =
+    let got = c .before .before in
+    held _ _ _ (got .n .given .1) (got .before .before .before .argument .ensures) .1
+
+keep-as-requires : tie.Need-keep-as-requires
+keep-as-requires c κs =
+    let got = c .before .before in
+    let n = held _ _ _ (got .n .given .1) (got .before .before .before .argument .ensures) in
+    omega (arith, n .0, n .1)
+
+returns-2 : tie.Need-returns-2
+returns-2 c = search needs
+
+pub keep-image-spec : {M : Type 1} → statement M
+keep-image-spec =
+    tie.close
+    (tie.spec
+    buffer-requires
+    slice-aggregate-argument
+    slice-aggregate-argument-2
+    argument-requires
+    enum-known-n
+    enum-told
+    returns
+    array-share-prefix-out
+    slice-aggregate-keep-as
+    keep-as-requires
+    returns-2)

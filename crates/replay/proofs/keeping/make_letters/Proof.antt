@@ -1,0 +1,57 @@
+use Prim.Native.Nat.{_-_}
+use mathlib.Core.Path.{_≡_}
+use lib.ListN.{length}
+use borrow.Author.Needs.{needs}
+use Rattle.replay.proofs.keeping.make_letters.Statement.{statement}
+use Rattle.replay.proofs.keeping.make_letters.Tie as tie
+use Rattle.replay.proofs.keeping.make_letters.Reads as reads
+use Rattle.replay.proofs.keeping.make_letters.Lts as lts
+
+abbrev Inv-loop : tie.InvT-loop
+Inv-loop bytes₀ i₀ bytes i = length bytes ≡ length bytes₀
+
+abbrev μ-loop : tie.MeasureT-loop
+μ-loop bytes₀ i₀ bytes i = length bytes₀ - i
+
+loop-holds : tie.Need-loop-holds Inv-loop μ-loop
+loop-holds c = search needs
+
+slice-read-bytes : tie.Need-slice-read-bytes Inv-loop μ-loop
+slice-read-bytes c = search needs
+
+add-bytes : tie.Need-add-bytes Inv-loop μ-loop
+add-bytes c = search needs
+
+slice-write-bytes : tie.Need-slice-write-bytes Inv-loop μ-loop
+slice-write-bytes c = search needs
+
+add-i : tie.Need-add-i Inv-loop μ-loop
+add-i c = search needs
+
+loop-less : tie.Need-loop-less Inv-loop μ-loop
+loop-less c = search needs
+
+loop-again : tie.Need-loop-again Inv-loop μ-loop
+loop-again c = search needs
+
+same-length : tie.Need-same-length Inv-loop μ-loop
+same-length c = search needs
+
+returns : tie.Need-returns Inv-loop μ-loop
+returns c = search needs
+
+pub make-letters-spec : {M : Type 1} → statement M
+make-letters-spec =
+    tie.close
+    (tie.spec
+    Inv-loop
+    μ-loop
+    loop-holds
+    slice-read-bytes
+    add-bytes
+    slice-write-bytes
+    add-i
+    loop-less
+    loop-again
+    same-length
+    returns)

@@ -1,0 +1,2 @@
+-- The root of the definitions of `reply_lines`.
+pub mod Lines
