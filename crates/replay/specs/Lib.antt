@@ -1,2 +1,3 @@
 -- The root of the definitions of `replay`.
 pub mod Inputs
+pub mod Whole

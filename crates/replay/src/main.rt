@@ -1,5 +1,5 @@
 // `replay IMAGE LOG [OUT]` runs a command log over a tag image. The replies go to standard output, one a line in capital
-// hexadecimal; what stopped the run goes to standard error; OUT becomes the image after the run. IMAGE is never written.
+// hexadecimal; what stopped the run goes to standard error; OUT becomes the image after the run. IMAGE is only read.
 // A Rattle program has no exit status: whoever wants one looks for a line that begins with `replay: ` on standard error.
 mod input;
 mod keeping;
@@ -16,17 +16,14 @@ use words::say;
 fn print_usage(fd: i32) {
     io::write_all(fd, b"usage: replay IMAGE LOG [OUT]\n\n");
     io::write_all(fd, b"Runs a command log over a tag image.\n\n");
-    io::write_all(
-        fd,
-        b"IMAGE  the tag's bytes, at most 65536; it is never written\n",
-    );
+    io::write_all(fd, b"IMAGE  the tag's bytes, at most 65536\n");
     io::write_all(
         fd,
         b"LOG    the commands, at most 1048576 bytes; - is standard input\n",
     );
     io::write_all(
         fd,
-        b"OUT    where the image after the run goes; it may be IMAGE\n\n",
+        b"OUT    the image after the run: a new file that takes this name, which\n       may be IMAGE's; without OUT no file is written\n\n",
     );
     io::write_all(
         fd,
@@ -39,14 +36,15 @@ fn print_usage(fd: i32) {
 fn run_and_keep(image: &mut [u8], log: &[u8], keeps: bool)
     requires { ⌜ length (now log) ≤ 1048576 ⌝ }
 {
-    let ended = running::run_log(image, log);
-    if !ended.printed {
+    let replayed = running::run_log(image, log);
+    if !replayed.printed {
         return;
     }
     if keeps {
         keeping::keep_image(image);
     }
-    running::report(ended);
+    let run = replayed.run;
+    running::report(run);
 }
 
 // Nothing is written before both files are read.

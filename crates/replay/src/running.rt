@@ -2,6 +2,8 @@
 ghost use Prim.Native.Nat.{_≤_};
 ghost use mathlib.Core.Path.{_≡_};
 ghost use lib.ListN.{length};
+ghost use Rattle.rules.specs.State.{state, poweredUp};
+ghost use Rattle.replay.specs.Whole.{PartRun, WholeRun, isFull};
 use crate::words::cannot;
 use crate::words::say;
 use crate::words::say_number;
@@ -10,25 +12,10 @@ use rules::Run;
 use rules::Session;
 use rules::Stop;
 
-// What a buffer of replies came to, and whether they were printed.
-struct Part {
-    run: Run,
-    printed: bool,
-}
-
-// What the whole run came to. Where the replies could not be printed, that has been said.
-pub struct Ended {
-    pub stop: Stop,
-    pub read: usize,
-    pub written: usize,
+// What a run came to, and whether its replies were printed; where they were not, that has been said.
+pub struct Replayed {
+    pub run: Run,
     pub printed: bool,
-}
-
-// The only call of the tag's run: as much of the log as the output has room for.
-fn run_some(image: &mut [u8], session: Session, log: &[u8], output: &mut [u8]) -> Run
-    ensures { λ r. ⌜ (r .read ≤ length (now (log .entry))) × (r .written ≤ length (now (output .entry))) ⌝ }
-{
-    tag::run(image, session, log, output)
 }
 
 // Three characters for each byte of a buffer of replies.
@@ -50,17 +37,20 @@ fn print_replies(replies: &[u8]) -> bool
     printed
 }
 
-fn run_part(image: &mut [u8], session: Session, log: &[u8]) -> Part
-    ensures { λ r. ⌜ (r .run .read ≤ length (now (log .entry))) × (r .run .written ≤ 4096) ⌝ }
+// As much of the log as a buffer has room for the replies of.
+fn run_part(image: &mut [u8], session: Session, log: &[u8]) -> Replayed
+    ensures { λ r. ⌜ PartRun (state (now (image .entry)) session) (now (log .entry)) (now (image .exit)) (r .run) ⌝ }
 {
     let mut replies = io::buffer();
-    let run = run_some(image, session, log, &mut replies);
+    let run = tag::run(image, session, log, &mut replies);
     let n = run.written;
     let printed = print_replies(&replies[..n]);
-    Part { run, printed }
+    Replayed { run, printed }
 }
 
-fn is_full(stop: Stop) -> bool {
+fn is_full(stop: Stop) -> bool
+    ensures { λ r. ⌜ r ≡ isFull stop ⌝ }
+{
     if let Stop::OutputFull = stop {
         true
     } else {
@@ -68,10 +58,10 @@ fn is_full(stop: Stop) -> bool {
     }
 }
 
-// From power-up to the end of the log. A full buffer is no end, unless not even one reply found room.
-pub fn run_log(image: &mut [u8], log: &[u8]) -> Ended
+// From power-up to the end of the log, or to a 15. A buffer that is full is printed, and the run goes on.
+pub fn run_log(image: &mut [u8], log: &[u8]) -> Replayed
     requires { ⌜ length (now log) ≤ 1048576 ⌝ }
-    ensures { λ r. ⌜ r .read ≤ length (now (log .entry)) ⌝ }
+    ensures { λ r. ⌜ WholeRun (state (now (image .entry)) poweredUp) (now (log .entry)) (now (image .exit)) r ⌝ }
 {
     let mut session = tag::power_up();
     let mut read = 0;
@@ -80,46 +70,42 @@ pub fn run_log(image: &mut [u8], log: &[u8]) -> Ended
         let part = run_part(image, session, &log[read..]);
         let run = part.run;
         let stop = run.stop;
-        let more = run.read;
         let printed = part.printed;
-        read += more;
-        written += run.written;
-        let ended = Ended {
-            stop,
-            read,
-            written,
-            printed,
-        };
-        if !is_full(stop) | !printed {
-            return ended;
-        }
-        if more == 0 {
-            return ended;
-        }
         let after = run.session;
         session = after;
+        read += run.read;
+        written += run.written;
+        if !is_full(stop) | !printed {
+            let run = Run {
+                read,
+                written,
+                stop,
+                session,
+            };
+            return Replayed { run, printed };
+        }
     }
 }
 
 // One line on what stopped the run.
-pub fn report(ended: Ended) {
-    let stop = ended.stop;
+pub fn report(run: Run) {
+    let stop = run.stop;
     match stop {
         Stop::End => say(b"the run stopped at the end of the log"),
         Stop::BadCommand => {
             say(b"the run stopped at byte ");
-            say_number(ended.read);
+            say_number(run.read);
             say(b" of the log, where no command can be read (15)");
         }
         Stop::OutputFull => {
             say(b"the run stopped at byte ");
-            say_number(ended.read);
+            say_number(run.read);
             say(b" of the log, with no room for the next reply (16)");
         }
     }
     say(b"; bytes of the log read: ");
-    say_number(ended.read);
+    say_number(run.read);
     say(b"; bytes of replies written: ");
-    say_number(ended.written);
+    say_number(run.written);
     say(b"\n");
 }

@@ -17,7 +17,7 @@ use Rattle.rules.proofs.Tests.{some-none, same-some}
 
 -- ---- the bytes of a body are skipped
 
-pub parsed-drop : (n : ℕ) (log : List ℕ) → parsed n log ≡ parsed 0 (drop n log)
+parsed-drop : (n : ℕ) (log : List ℕ) → parsed n log ≡ parsed 0 (drop n log)
 unfolding parsed
 parsed-drop zero [] = refl
 parsed-drop zero (b ∷ log) = refl

@@ -2,7 +2,7 @@
 -- continued, and that its replies can be read back. Assumes nothing.
 use Prim.Native.Nat.{ℕ, zero, suc, _+_, _-_, _≤_, _<_}
 use mathlib.Core.Path.{_≡_, refl, sym, ap, ap₂, subst, _∙_}
-use mathlib.Core.Logic.{_⊎_, inl, inr}
+use mathlib.Core.Logic.{_≢_, _⊎_, inl, inr}
 use mathlib.Core.Bool.{Bool, true, false, cond}
 use mathlib.Core.List.{List, [], _∷_, _++_, append-assoc, append-nil}
 use mathlib.Core.Option.{Option, none, some}
@@ -20,7 +20,7 @@ use Rattle.rules.specs.Runs.{dataLength, answerAt, answersIn, RunsContin
 use Rattle.rules.proofs.Tests.{some-none, same-some}
 use Rattle.rules.proofs.BytesLaws.{length-part, part-front}
 use Rattle.rules.proofs.GrantedRead.{granted-read}
-use Rattle.rules.proofs.LogLaws.{body-fits, parsed-drop}
+use Rattle.rules.proofs.LogLaws.{body-fits, log-is-its-commands}
 
 -- ---- the commands of a log
 
@@ -259,11 +259,78 @@ run-continues E s zero (b ∷ body) room more h e =
             ∙ continue-on E b n body out y more)
         at-command false l g = full (some (c, n)) q
 
+-- and one that needs no more room
+run-enough : (E : Cipher) (s : State) (p : Parsed) (room more : ℕ) → room ≤ more → carriedOut E s p room .stop ≢ some 16
+    → carriedOut E s p more ≡ carriedOut E s p room
+unfolding carriedOut stopped
+run-enough E s end room more h e = refl
+run-enough E s unreadable room more h e = by (leb 2 room) refl e
+  where
+    at : ℕ → Ran
+    at k = carriedOut E s unreadable k
+
+    by : (t : Bool) → leb 2 room ≡ t
+        → cond t (stopped (some 15) (encoded (refused 15)) s) (stopped (some 16) [] s) .stop ≢ some 16
+        → at more ≡ cond t (stopped (some 15) (encoded (refused 15)) s) (stopped (some 16) [] s)
+    by true l f = let k = leb-true 2 room l in rw (le-leb 2 more (omega arith))
+    by false l f = absurd (f refl)
+run-enough E s (c taking n then p) room more h e =
+    by (leb (roomFor c) room) refl e (λ k m l f. run-enough E (after E s c) p k m l f)
+  where
+    out : List ℕ
+    out = encoded (reply E s c)
+
+    rest : ℕ → Ran
+    rest k = carriedOut E (after E s c) p (k - length out)
+
+    by : (t : Bool) → leb (roomFor c) room ≡ t
+        → cond t (onward n out (rest room)) (stopped (some 16) [] s) .stop ≢ some 16
+        → ((k m : ℕ) → k ≤ m → carriedOut E (after E s c) p k .stop ≢ some 16
+        → carriedOut E (after E s c) p m ≡ carriedOut E (after E s c) p k)
+        → carriedOut E s (c taking n then p) more ≡ cond t (onward n out (rest room)) (stopped (some 16) [] s)
+    by true l f later =
+        let k = leb-true (roomFor c) room l in
+        rw (le-leb (roomFor c) more (omega arith))
+        (ap (onward n out)
+        (later (room - length out) (more - length out) (omega arith) (λ q. f (sym (onward-stop n out (rest room)) ∙ q))))
+    by false l f later = absurd (f refl)
+
+-- 33 bytes are room for any command of a log
+small : (c : Command) → OfLog c → roomFor c ≤ 33
+unfolding roomFor
+small (read a n room) (inl e) = omega arith
+small (read a n room) (inr (inl e)) = omega arith
+small (read a n room) (inr (inr (inl e))) = omega arith
+small (read a n room) (inr (inr (inr e))) = omega arith
+small (write a bs) h = omega arith
+small (advance k) h = omega arith
+small powerUp h = omega arith
+
+full-moves : (E : Cipher) (s : State) (log : List ℕ) (room : ℕ) → 33 ≤ room → runLog E s log room .stop ≡ some 16
+    → 1 ≤ runLog E s log room .taken
+unfolding stopped onward
+full-moves E s [] room h e = some-none (sym e ∙ ap (λ x. x .stop) (log-is-its-commands E s room .at-end))
+full-moves E s (b ∷ body) room h e = by (first b body) refl
+  where
+    by : (o : Option (Command × ℕ)) → first b body ≡ o → 1 ≤ runLog E s (b ∷ body) room .taken
+    by none q =
+        not-full (sym (ap (λ x. x .stop) (log-is-its-commands E s room .at-15 b body q (omega arith))) ∙ e)
+    by (some (c, n)) q =
+        let l = small c (of-log b body c n q) in
+        let t = ap (λ x. x .taken) (log-is-its-commands E s room .at-command b body c n q (omega arith)) in
+        omega (arith, t)
+
 pub runs-continue : (E : Cipher) (s : State) → RunsContinue E s
 unfolding runLog
-runs-continue E s log room more e h =
-    let f : 0 + carriedOut E s (parsed 0 log) room .taken ≡ carriedOut E s (parsed 0 log) room .taken = omega arith in
-    rw f at (run-continues E s 0 log room more h e)
+runs-continue E s =
+    record {
+      moves-on = full-moves E s;
+      enough = λ log room more e h. run-enough E s (parsed 0 log) room more h e;
+      goes-on = λ log room more e h.
+          let f : 0 + carriedOut E s (parsed 0 log) room .taken ≡ carriedOut E s (parsed 0 log) room .taken =
+          omega arith in
+          rw f at (run-continues E s 0 log room more h e);
+    }
 
 -- ---- the replies of a run, read back
 

@@ -2,6 +2,7 @@
 -- equation with `runOver` as its contract. Assumes nothing.
 use Prim.Native.Nat.{ℕ, zero, suc, _+_, _-_, _≤_, _<_}
 use mathlib.Core.Path.{_≡_}
+use mathlib.Core.Logic.{_≢_}
 use mathlib.Core.Bool.{cond}
 use mathlib.Core.List.{List, [], _∷_, _++_}
 use mathlib.Core.Option.{Option, some}
@@ -71,15 +72,18 @@ abbrev pub RunsLeave : Cipher → State → Type 0
 RunsLeave E s =
     (log out : List ℕ) (r : Run) (t o : List ℕ) → result r t o ≡ runOver E s log out → RunLeaves E s log out r o
 
--- ---- a run that a full output stopped goes on, over the rest of the log and from the state that it left, as a run with
--- more room would have
+-- ---- room: a run that no 16 stopped is the same with more of it; one that a 16 stopped goes on, over the rest of the
+-- log and from the state that it left, as a run with more room would have; and 33 bytes are room for any one reply
 
-abbrev pub RunsContinue : Cipher → State → Type 0
-RunsContinue E s =
-    (log : List ℕ) (room more : ℕ) → runLog E s log room .stop ≡ some 16 → room ≤ more
-    → let x = runLog E s log room in
-    runLog E s log more
-    ≡ onward (x .taken) (x .output) (runLog E (x .state) (drop (x .taken) log) (more - length (x .output)))
+pub record RunsContinue (E : Cipher) (s : State) : Type 0 where
+  pub enough : (log : List ℕ) (room more : ℕ) → runLog E s log room .stop ≢ some 16 → room ≤ more
+      → runLog E s log more ≡ runLog E s log room
+  pub goes-on : (log : List ℕ) (room more : ℕ) → runLog E s log room .stop ≡ some 16 → room ≤ more
+      → let x = runLog E s log room in
+      runLog E s log more
+      ≡ onward (x .taken) (x .output) (runLog E (x .state) (drop (x .taken) log) (more - length (x .output)))
+  pub moves-on : (log : List ℕ) (room : ℕ) → 33 ≤ room → runLog E s log room .stop ≡ some 16
+      → 1 ≤ runLog E s log room .taken
 
 -- ---- the answers that stand in an output, read back: "41 to 44 with the data, 50 done, 51 and one number"
 
