@@ -16,7 +16,7 @@ use Rattle.rules.specs.State.{Cipher, State, state, poweredUp}
 use Rattle.rules.specs.Answers.{refusalOf, numberOf}
 use Rattle.rules.specs.Refusals.{lowest}
 use Rattle.rules.specs.Effects.{apply, refusalStores}
-use Rattle.rules.specs.Command.{Command, Reply, stores, newSession, done, gives, refused, read, write, advance, powerUp, checks, refusal, grant, reply, replyBy, after, afterBy, filled}
+use Rattle.rules.specs.Command.{Command, Reply, stores, newSession, done, gives, read, write, advance, powerUp, checks, refusal, grant, reply, replyBy, after, afterBy, filled}
 use Rattle.rules.specs.Run.{final, replies}
 use Rattle.rules.proofs.BytesLaws.{part-put-same}
 use Rattle.rules.proofs.GrantedRead.{granted-read}

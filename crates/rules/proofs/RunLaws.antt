@@ -1,17 +1,16 @@
 -- Laws of runs over a log: what the commands of a log are, that a run stays within the log and the room, that it can be
 -- continued, and that its replies can be read back. Assumes nothing.
-use Prim.Native.Nat.{ℕ, zero, suc, _+_, _-_, _≤_, _<_}
+use Prim.Native.Nat.{ℕ, zero, suc, _+_, _-_, _≤_}
 use mathlib.Core.Path.{_≡_, refl, sym, ap, ap₂, subst, _∙_}
 use mathlib.Core.Logic.{_≢_, _⊎_, inl, inr}
 use mathlib.Core.Bool.{Bool, true, false, cond}
-use mathlib.Core.List.{List, [], _∷_, _++_, append-assoc, append-nil}
+use mathlib.Core.List.{List, [], _∷_, _++_, append-assoc}
 use mathlib.Core.Option.{Option, none, some}
 use native.Mathlib.Omega.{arith}
-use native.Mathlib.Nat.{add-assoc, add-suc, suc-add, zero-add, sub-zero}
+use native.Mathlib.Nat.{add-assoc, zero-add, sub-zero}
 use lib.ListN.{length, drop, length-append}
 use lib.Dec.{eqb, leb}
-use borrow.Author.Tests.{leb-true, leb-false, le-leb}
-use Rattle.rules.specs.Bytes.{part}
+use borrow.Author.Tests.{leb-true, le-leb}
 use Rattle.rules.specs.State.{Cipher, State}
 use Rattle.rules.specs.Command.{Command, Reply, read, write, advance, powerUp, done, gives, refused, refusal, grant, reply, replyBy, after}
 use Rattle.rules.specs.Run.{replies}

@@ -1,18 +1,17 @@
 -- What is claimed of runs follows from their contract and from what is proved of the rules. Assumes nothing.
 use Prim.Native.Nat.{ℕ, _+_, _≤_}
-use mathlib.Core.Path.{_≡_, sym, ap, subst, _∙_}
+use mathlib.Core.Path.{_≡_, sym, ap, _∙_}
 use mathlib.Core.Bool.{true}
-use mathlib.Core.List.{List, _∷_, _++_}
+use mathlib.Core.List.{List}
 use native.Mathlib.Omega.{arith}
-use lib.ListN.{length, drop}
-use Rattle.rules.specs.Bytes.{part, put}
+use lib.ListN.{length}
+use Rattle.rules.specs.Bytes.{put}
 use Rattle.rules.specs.Map.{sound}
 use Rattle.rules.specs.Answers.{stopNumber}
 use Rattle.rules.specs.State.{Cipher, State, state}
 use Rattle.rules.specs.Command.{reply}
 use Rattle.rules.specs.Run.{final, replies}
 use Rattle.rules.specs.Log.{runLog, parsed, commands}
-use Rattle.rules.specs.Demand3.{withCopies, withoutCopies}
 use Rattle.rules.specs.Runs.{resultOf, runOver, RunsLeave, RunToEnd, RunsDemand3, answers, answersIn}
 use Rattle.rules.specs.declared.Run.{Run}
 use Rattle.rules.proofs.BytesLaws.{length-put, part-put-same, put-behind}

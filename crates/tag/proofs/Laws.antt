@@ -1,8 +1,7 @@
 -- The laws that the functions of a run cite: replies in their place, the state after a command, and what a run has left
 -- to do. Assumes nothing.
-use Prim.Native.Nat.{ℕ, zero, suc, _+_, _-_, _≤_, _<_}
+use Prim.Native.Nat.{ℕ, zero, suc, _+_, _-_, _≤_}
 use mathlib.Core.Path.{_≡_, refl, sym, ap, subst, _∙_}
-use mathlib.Core.Bool.{Bool, true, false}
 use mathlib.Core.List.{List, [], _∷_, _++_}
 use mathlib.Core.Option.{Option, none, some}
 use native.Mathlib.Omega.{arith}
@@ -13,9 +12,9 @@ use Rattle.rules.specs.declared.Answer.{Answer}
 use Rattle.rules.specs.declared.Answer.the-variants.{Done, Refused}
 use Rattle.rules.specs.declared.Outcome.{Outcome}
 use Rattle.rules.specs.Bytes.{part, put}
-use Rattle.rules.specs.State.{State, state, poweredUp}
+use Rattle.rules.specs.State.{State, poweredUp}
 use Rattle.rules.specs.Answers.{refusalOf}
-use Rattle.rules.specs.Command.{Command, read, write, advance, powerUp, done, refused, refusal, grant, reply, replyBy, filled, after}
+use Rattle.rules.specs.Command.{Command, read, write, powerUp, done, refused, refusal, grant, reply, replyBy, filled}
 use Rattle.rules.specs.Calls.{CarriedOut, outcome, replyOf}
 use Rattle.rules.specs.Log.{encoded}
 use Rattle.rules.proofs.BytesLaws.{put-none}

@@ -1,12 +1,8 @@
-use Rattle.replay.proofs.Laws.{held, taken}
+-- `replay::replay` lends the image and the log, which are within their buffers. Assumes nothing.
 use borrow.Author.Needs.{needs}
+use Rattle.replay.proofs.Laws.{held, taken}
 use Rattle.replay.proofs.replay.Statement.{statement}
 use Rattle.replay.proofs.replay.Tie as tie
-use Rattle.replay.proofs.replay.Reads as reads
-use Rattle.replay.proofs.replay.Lts as lts
-use Rattle.replay.proofs.input.read_image.Reads as read-image-reads
-use Rattle.replay.proofs.input.read_log.Reads as read-log-reads
-use Rattle.replay.proofs.run_and_keep.Reads as run-and-keep-reads
 
 read-image-requires : tie.Need-read-image-requires
 read-image-requires c κs = search needs

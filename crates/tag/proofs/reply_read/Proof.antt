@@ -1,5 +1,5 @@
 -- `tag::reply_read` meets its contract: the bytes stand behind the code, or the refusal stands alone. Assumes nothing.
-use mathlib.Core.Path.{_≡_, sym, ap, _∙_}
+use mathlib.Core.Path.{_≡_, _∙_}
 use Prim.Native.Nat.{_+_, _-_}
 use native.Mathlib.Omega.{arith}
 use lib.ListN.{length}

@@ -1,15 +1,12 @@
-use Rattle.io.proofs.Counting.{counts}
+-- `replay::input::read_all` meets its contract. The invariant: the bytes done are within the buffer, which keeps its length.
+-- Assumes nothing.
 use Prim.Native.Nat.{_≤_, _-_}
 use mathlib.Core.Path.{_≡_}
-use native.Mathlib.Omega.{arith}
 use lib.ListN.{length}
 use borrow.Author.Needs.{needs}
+use Rattle.io.proofs.Counting.{counts}
 use Rattle.replay.proofs.input.read_all.Statement.{statement}
 use Rattle.replay.proofs.input.read_all.Tie as tie
-use Rattle.replay.proofs.input.read_all.Reads as reads
-use Rattle.replay.proofs.input.read_all.Lts as lts
-use Rattle.io.proofs.count.Reads as count-reads
-use Rattle.libc.proofs.read.Reads as read-reads
 
 abbrev Inv-loop : tie.InvT-loop
 Inv-loop fd buffer₀ done₀ buffer done = (length buffer ≡ length buffer₀) × (done ≤ length buffer)

@@ -1,12 +1,8 @@
-use Rattle.replay.proofs.Laws.{held, ended}
+-- `replay::input::read_image` meets its contract: the buffer has one byte more than an image may have. Assumes nothing.
 use borrow.Author.Needs.{needs}
+use Rattle.replay.proofs.Laws.{held, ended}
 use Rattle.replay.proofs.input.read_image.Statement.{statement}
 use Rattle.replay.proofs.input.read_image.Tie as tie
-use Rattle.replay.proofs.input.read_image.Reads as reads
-use Rattle.replay.proofs.input.read_image.Lts as lts
-use Rattle.io.proofs.buffer.Reads as buffer-reads
-use Rattle.replay.proofs.input.argument.Reads as argument-reads
-use Rattle.replay.proofs.input.use_image.Reads as use-image-reads
 
 buffer-requires : tie.Need-buffer-requires
 buffer-requires c κs = search needs

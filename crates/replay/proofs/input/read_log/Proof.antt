@@ -1,12 +1,8 @@
-use Rattle.replay.proofs.Laws.{held, ended}
+-- `replay::input::read_log` meets its contract: the buffer has one byte more than a log may have. Assumes nothing.
 use borrow.Author.Needs.{needs}
+use Rattle.replay.proofs.Laws.{held, ended}
 use Rattle.replay.proofs.input.read_log.Statement.{statement}
 use Rattle.replay.proofs.input.read_log.Tie as tie
-use Rattle.replay.proofs.input.read_log.Reads as reads
-use Rattle.replay.proofs.input.read_log.Lts as lts
-use Rattle.io.proofs.buffer.Reads as buffer-reads
-use Rattle.replay.proofs.input.argument.Reads as argument-reads
-use Rattle.replay.proofs.input.use_log.Reads as use-log-reads
 
 buffer-requires : tie.Need-buffer-requires
 buffer-requires c κs = search needs

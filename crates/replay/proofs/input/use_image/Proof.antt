@@ -1,12 +1,9 @@
+-- `replay::input::use_image` meets its contract: the image is whole, and shorter than the buffer. Assumes nothing.
 use native.Mathlib.Omega.{arith}
-use Rattle.replay.proofs.Laws.{held}
 use borrow.Author.Needs.{needs}
+use Rattle.replay.proofs.Laws.{held}
 use Rattle.replay.proofs.input.use_image.Statement.{statement}
 use Rattle.replay.proofs.input.use_image.Tie as tie
-use Rattle.replay.proofs.input.use_image.Reads as reads
-use Rattle.replay.proofs.input.use_image.Lts as lts
-use Rattle.replay.proofs.input.read_file.Reads as read-file-reads
-use Rattle.replay.proofs.words.wrong.Reads as wrong-reads
 
 slice-aggregate-read-file : tie.Need-slice-aggregate-read-file
 slice-aggregate-read-file c = search needs

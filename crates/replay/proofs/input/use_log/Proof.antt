@@ -1,12 +1,9 @@
+-- `replay::input::use_log` meets its contract: the log is whole, and shorter than the buffer. Assumes nothing.
 use native.Mathlib.Omega.{arith}
-use Rattle.replay.proofs.Laws.{held}
 use borrow.Author.Needs.{needs}
+use Rattle.replay.proofs.Laws.{held}
 use Rattle.replay.proofs.input.use_log.Statement.{statement}
 use Rattle.replay.proofs.input.use_log.Tie as tie
-use Rattle.replay.proofs.input.use_log.Reads as reads
-use Rattle.replay.proofs.input.use_log.Lts as lts
-use Rattle.replay.proofs.input.read_log_file.Reads as read-log-file-reads
-use Rattle.replay.proofs.words.wrong.Reads as wrong-reads
 
 read-log-file-requires : tie.Need-read-log-file-requires
 read-log-file-requires c κs = search needs

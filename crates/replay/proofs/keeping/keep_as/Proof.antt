@@ -1,13 +1,9 @@
+-- `replay::keeping::keep_as` lends the name, which is within its buffer. Assumes nothing.
 use mathlib.Core.Path.{sym}
 use lib.Seq.{length-take-le}
 use borrow.Author.Needs.{needs}
 use Rattle.replay.proofs.keeping.keep_as.Statement.{statement}
 use Rattle.replay.proofs.keeping.keep_as.Tie as tie
-use Rattle.replay.proofs.keeping.keep_as.Reads as reads
-use Rattle.replay.proofs.keeping.keep_as.Lts as lts
-use Rattle.replay.proofs.keeping.name_beside.Reads as name-beside-reads
-use Rattle.replay.proofs.keeping.name_buffer.Reads as name-buffer-reads
-use Rattle.replay.proofs.keeping.replace.Reads as replace-reads
 
 name-buffer-requires : tie.Need-name-buffer-requires
 name-buffer-requires c κs = search needs

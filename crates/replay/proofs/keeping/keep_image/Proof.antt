@@ -1,13 +1,9 @@
+-- `replay::keeping::keep_image` lends the argument, which is within its buffer. Assumes nothing.
 use native.Mathlib.Omega.{arith}
-use Rattle.replay.proofs.Laws.{held}
 use borrow.Author.Needs.{needs}
+use Rattle.replay.proofs.Laws.{held}
 use Rattle.replay.proofs.keeping.keep_image.Statement.{statement}
 use Rattle.replay.proofs.keeping.keep_image.Tie as tie
-use Rattle.replay.proofs.keeping.keep_image.Reads as reads
-use Rattle.replay.proofs.keeping.keep_image.Lts as lts
-use Rattle.io.proofs.buffer.Reads as buffer-reads
-use Rattle.replay.proofs.input.argument.Reads as argument-reads
-use Rattle.replay.proofs.keeping.keep_as.Reads as keep-as-reads
 
 buffer-requires : tie.Need-buffer-requires
 buffer-requires c κs = search needs

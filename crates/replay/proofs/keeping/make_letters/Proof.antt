@@ -1,11 +1,10 @@
+-- `replay::keeping::make_letters` ends and stays inside the slice, which keeps its length. Assumes nothing.
 use Prim.Native.Nat.{_-_}
 use mathlib.Core.Path.{_≡_}
 use lib.ListN.{length}
 use borrow.Author.Needs.{needs}
 use Rattle.replay.proofs.keeping.make_letters.Statement.{statement}
 use Rattle.replay.proofs.keeping.make_letters.Tie as tie
-use Rattle.replay.proofs.keeping.make_letters.Reads as reads
-use Rattle.replay.proofs.keeping.make_letters.Lts as lts
 
 abbrev Inv-loop : tie.InvT-loop
 Inv-loop bytes₀ i₀ bytes i = length bytes ≡ length bytes₀

@@ -1,18 +1,13 @@
+-- `replay::running::print_replies` lends the text, which is within its buffer: three characters for a byte. Assumes nothing.
 use Prim.Native.Nat.{_≤_}
-use lib.ListN.{length}
-use native.Mathlib.Omega.{arith}
 use mathlib.Core.Path.{sym}
+use native.Mathlib.Omega.{arith}
+use lib.ListN.{length}
 use lib.Seq.{length-take-le}
-use Rattle.reply_lines.proofs.Laws.{lines-short}
 use borrow.Author.Needs.{needs}
+use Rattle.reply_lines.proofs.Laws.{lines-short}
 use Rattle.replay.proofs.running.print_replies.Statement.{statement}
 use Rattle.replay.proofs.running.print_replies.Tie as tie
-use Rattle.replay.proofs.running.print_replies.Reads as reads
-use Rattle.replay.proofs.running.print_replies.Lts as lts
-use Rattle.io.proofs.write_all.Reads as write-all-reads
-use Rattle.replay.proofs.running.text_buffer.Reads as text-buffer-reads
-use Rattle.replay.proofs.words.cannot.Reads as cannot-reads
-use Rattle.reply_lines.proofs.lines.Reads as lines-reads
 
 text-buffer-requires : tie.Need-text-buffer-requires
 text-buffer-requires c κs = search needs

@@ -1,7 +1,7 @@
 -- `replay::running::run_log` meets its contract. The loop's invariant: what is left of the log, run from here, leads to the
 -- whole run. Assumes nothing.
 use Prim.Native.Nat.{_-_, _*_, _+_, _≤_}
-use mathlib.Core.Path.{_≡_, refl, sym, ap, subst, _∙_}
+use mathlib.Core.Path.{_≡_, refl, sym, subst, _∙_}
 use native.Mathlib.Omega.{arith}
 use lib.ListN.{length, drop, length-drop}
 use Rattle.rules.specs.State.{state}
