@@ -23,4 +23,5 @@ pub mod Moves
 pub mod Calls
 pub mod RunLaws
 pub mod Runs
+pub mod Told
 pub mod Theorems

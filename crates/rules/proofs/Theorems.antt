@@ -6,6 +6,7 @@ use Rattle.rules.proofs.Lawful.{sound-stays}
 use Rattle.rules.proofs.Locked.{locked-unit}
 use Rattle.rules.proofs.Counting.{one-answer-each}
 use Rattle.rules.proofs.Refused.{lowest-given, refusal-named, refused-changes-nothing}
+use Rattle.rules.proofs.Told.{answers-told}
 use Rattle.rules.proofs.Demand3.{demand-3}
 use Rattle.rules.proofs.Calls.{calls-follow, calls-demand-3, refused-leaves, refused-reads}
 use Rattle.rules.proofs.RunLaws.{runs-continue}
@@ -30,6 +31,7 @@ theorems =
       runs-continue = runs-continue;
       lowest-given = lowest-given;
       refusal-named = refusal-named;
+      answers-told = answers-told;
       refused-changes-nothing = refused-changes-nothing;
       the-map = the-map;
       no-spare = no-spare;

@@ -11,12 +11,14 @@ use Rattle.rules.specs.declared.Model.{Model}
 use Rattle.rules.specs.declared.Model.the-variants.{Default, WriteOnce, Counter, Receiver}
 use Rattle.rules.specs.declared.Place.{Place}
 use Rattle.rules.specs.declared.Place.the-variants.{Spare, Segment}
+use Rattle.rules.specs.declared.Answer.{Answer}
 use Rattle.rules.specs.declared.Refusal.{Refusal}
+use Rattle.rules.specs.declared.Stop.{Stop}
 use Rattle.rules.specs.Bytes.{byte, put, part}
 use Rattle.rules.specs.Map.{Row, row, rows, segments, publics, placeOf, flag, sound}
 use Rattle.rules.specs.Units.{unitBytes, unitOf, bit}
 use Rattle.rules.specs.State.{Cipher, State}
-use Rattle.rules.specs.Answers.{numberOf}
+use Rattle.rules.specs.Answers.{numberOf, refusalOf, stopNumber}
 use Rattle.rules.specs.Refusals.{Checks, granted, _when_else_}
 use Rattle.rules.specs.Effects.{readOnly, advanced}
 use Rattle.rules.specs.Command.{Command, refusal, checks, reply, refused, filled, after, read, advance, write, powerUp}
@@ -69,6 +71,11 @@ pub record LowestGiven (E : Cipher) (s : State) (c : Command) : Type 0 where
 pub record RefusalNamed (n : ℕ) : Type 0 where
   pub refusal-case : Refusal
   pub its-number : numberOf refusal-case ≡ n
+
+-- "a public function's contract determines the returned value": an answer and a stop are told by their numbers
+pub record AnswersTold : Type 0 where
+  pub answer-told : (a b : Answer) → refusalOf a ≡ refusalOf b → a ≡ b
+  pub stop-told : (a b : Stop) → stopNumber a ≡ stopNumber b → a ≡ b
 
 -- ---- "A refused command .. returns its number alone and changes nothing, except 11, which sets the flag."
 

@@ -12,7 +12,7 @@ use Rattle.rules.specs.Command.{Command, refusal}
 use Rattle.rules.specs.Demand3.{Demand3, LogDemand3}
 use Rattle.rules.specs.Calls.{CallsFollow, CallsDemand3, RefusedLeaves, RefusedReads}
 use Rattle.rules.specs.Runs.{RunsDemand3, RunsLeave, RunsContinue}
-use Rattle.rules.specs.Claims.{LowestGiven, RefusalNamed, RefusedChangesNothing, TheMap, NoSpare, Sizes, SoundStays, LockedUnit, MovesExact, PowerUpClears, OneAnswerEach, LogIsItsCommands}
+use Rattle.rules.specs.Claims.{LowestGiven, RefusalNamed, AnswersTold, RefusedChangesNothing, TheMap, NoSpare, Sizes, SoundStays, LockedUnit, MovesExact, PowerUpClears, OneAnswerEach, LogIsItsCommands}
 use Rattle.rules.specs.FourCommands.{HostReads}
 use Rattle.rules.specs.Examples.{starred, Hold, stages, errors, NotEmpty, RepeatsChange}
 use Rattle.rules.specs.Readings.{readings}
@@ -33,6 +33,7 @@ pub record Theorems : Type 0 where
   -- refusals
   pub lowest-given : (E : Cipher) (s : State) (c : Command) → LowestGiven E s c
   pub refusal-named : (E : Cipher) (s : State) (c : Command) (n : ℕ) → refusal E s c ≡ some n → RefusalNamed n
+  pub answers-told : AnswersTold
   pub refused-changes-nothing : (E : Cipher) (s : State) (c : Command) (n : ℕ) → refusal E s c ≡ some n
       → RefusedChangesNothing E s c n
   -- the tag
