@@ -1,6 +1,6 @@
 -- The laws of a run that is made in parts: what is behind, and what is left, come to the whole. Assumes nothing.
 use Prim.Native.Nat.{ℕ, _+_, _-_, _≤_, _<_}
-use mathlib.Core.Path.{_≡_, refl, sym, ap, _∙_}
+use mathlib.Core.Path.{_≡_, refl, sym, ap, subst, _∙_}
 use mathlib.Core.Logic.{_≢_}
 use mathlib.Core.Bool.{Bool, true, false, not, _||_}
 use mathlib.Core.List.{List, [], _∷_}
@@ -96,6 +96,10 @@ behind-first s log =
           let k : room - 0 ≡ room = omega arith in
           rw k (ahead-none (totals (runLog E s log room)));
     }
+
+pub behind-from : (t log : List ℕ) (v w : Session) (s : State) (i j : ℕ) → v ≡ w → Behind (state t v) log s i j
+    → Behind (state t w) log s i j
+behind-from t log v w s i j e b = subst (λ x. Behind (state t x) log s i j) e b
 
 pub behind-next : (s₀ : State) (log t u : List ℕ) (v : Session) (i j : ℕ) (r : Run) → Behind s₀ log (state t v) i j
     → PartRun (state t v) (drop i log) u r → isFull (r .stop) ≡ true

@@ -34,13 +34,14 @@ pub record PartRun (s : State) (log t : List ℕ) (r : Run) : Type 0 where
   pub read-within : r .read ≤ length log
   pub written-within : r .written ≤ 4096
 
--- the whole of it: where its replies were printed, it is the rules' run over the log with any room that holds these and
--- a buffer more
-pub record WholeRun (s : State) (log t : List ℕ) (r : Replayed) : Type 0 where
-  pub came : r .printed ≡ true → (room : ℕ) → r .run .written + 4096 ≤ room
-      → totalsOf (r .run) t ≡ totals (runLog E s log room)
-
 abbrev pub isFull : Stop → Bool
 isFull End = false
 isFull BadCommand = false
 isFull OutputFull = true
+
+-- the whole of it: where its replies were printed, no 16 stopped it, and it is the rules' run over the log with any room
+-- that holds these and a buffer more
+pub record WholeRun (s : State) (log t : List ℕ) (r : Replayed) : Type 0 where
+  pub ended : r .printed ≡ true → isFull (r .run .stop) ≡ false
+  pub came : r .printed ≡ true → (room : ℕ) → r .run .written + 4096 ≤ room
+      → totalsOf (r .run) t ≡ totals (runLog E s log room)

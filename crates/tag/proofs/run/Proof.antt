@@ -73,27 +73,41 @@ reply-to-requires c κs =
     let r = c .before .before .before .room-of .ensures in
     (c .before .before .before .before .before .before .loop .inv .0 .same, c .before .before .before .before .next-at .ensures, omega arith)
 
--- behind the call of `reply_to`: there was room, and the reply is within it
+-- the places before that behind the call of `reply_to`: the call, what came next, the loop and the start
+abbrev called : tie.After-struct-known Inv-loop μ-loop → tie.After-reply-to Inv-loop μ-loop
+called c = c .before .before .before .before .before .before
+
+abbrev parsed : tie.After-struct-known Inv-loop μ-loop → tie.After-next-at Inv-loop μ-loop
+parsed c = c .before .before .before .before .before .before .before .before .before .before .before
+
+abbrev looped : tie.After-struct-known Inv-loop μ-loop → tie.At-loop Inv-loop μ-loop
+looped c = c .before .before .before .before .before .before .before .before .before .before .before .before .before
+
+abbrev start : tie.After-struct-known Inv-loop μ-loop → tie.Start Inv-loop μ-loop
+start c = c .before .before .before .before .before .before .before .before .before .before .before .before .before .before .before .before .before .before .before
+
+-- there was room, the reply is within it, and the output keeps its length
 room : (c : tie.After-struct-known Inv-loop μ-loop)
-    → roomOf (c .before .before .before .before .before .before .before .before .before .before .before .next-at .result) ≤ length (c .before .before .before .before .before .before .before .before .before .before .before .before .before .loop .output) - c .before .before .before .before .before .before .before .before .before .before .before .before .before .loop .written
+    → roomOf (parsed c .next-at .result) ≤ length (looped c .loop .output) - looped c .loop .written
 room c =
-    let loop = c .before .before .before .before .before .before .before .before .before .before .before .before .before .loop in
+    let loop = looped c .loop in
     subst (λ k. k ≤ length (loop .output) - loop .written) (c .before .before .before .before .before .before .before .before .before .before .room-of .ensures) (c .before .before .before .before .before .before .before .before .before .if1 .left)
 
 within : (c : tie.After-struct-known Inv-loop μ-loop)
-    → c .before .before .before .before .before .before .before .before .before .before .before .before .before .loop .written + c .before .before .before .before .before .before .reply-to .result .written ≤ length (c .before .before .before .before .before .before .before .before .before .before .before .before .before .loop .output)
+    → looped c .loop .written + called c .reply-to .result .written ≤ length (looped c .loop .output)
 within c =
-    let loop = c .before .before .before .before .before .before .before .before .before .before .before .before .before .loop in
-    let reply = c .before .before .before .before .before .before .reply-to in
+    let loop = looped c .loop in
+    let reply = called c .reply-to in
     written-within _ _ (loop .output) _ (reply .last .1 .1 .1 .1 .1 .1 .0) _ _ (loop .written) _ (reply .result)
-    (c .before .before .before .before .before .before .before .before .before .before .before .next-at .ensures) (loop .inv .0 .fits) (room c) (reply .ensures)
+    (parsed c .next-at .ensures) (loop .inv .0 .fits) (room c) (reply .ensures)
 
 size : (c : tie.After-struct-known Inv-loop μ-loop)
-    → length (putMid (c .before .before .before .before .before .before .before .before .before .before .before .before .before .loop .written) (length (c .before .before .before .before .before .before .before .before .before .before .before .before .before .loop .output) - c .before .before .before .before .before .before .before .before .before .before .before .before .before .loop .written) (c .before .before .before .before .before .before .before .before .before .before .before .before .before .loop .output) (c .before .before .before .before .before .before .reply-to .last .1 .1 .1 .1 .1 .1 .0))
-    ≡ length (c .before .before .before .before .before .before .before .before .before .before .before .before .before .before .before .before .before .before .before .args .output .now)
+    → length (putMid (looped c .loop .written) (length (looped c .loop .output) - looped c .loop .written)
+    (looped c .loop .output) (called c .reply-to .last .1 .1 .1 .1 .1 .1 .0))
+    ≡ length (start c .args .output .now)
 size c =
-    let loop = c .before .before .before .before .before .before .before .before .before .before .before .before .before .loop in
-    let reply = c .before .before .before .before .before .before .reply-to in
+    let loop = looped c .loop in
+    let reply = called c .reply-to in
     same-len-mid (loop .written) (length (loop .output) - loop .written) (loop .output) (reply .last .1 .1 .1 .1 .1 .1 .0)
     (reply .kept .1 .1 .1 .1 .1 .1 .0)
     ∙ loop .inv .2
@@ -101,8 +115,8 @@ size c =
 add-written : tie.Need-add-written Inv-loop μ-loop
 add-written c =
     let w = within c in
-    let l = c .before .before .before .before .before .before .before .before .before .before .before .before .before .loop .inv .2 in
-    record { fits = omega (arith, c .before .before .before .before .before .before .before .before .before .before .before .before .before .before .before .before .before .before .before .good .1 .1 .1) }
+    let l = looped c .loop .inv .2 in
+    record { fits = omega (arith, start c .good .1 .1 .1) }
 
 enum-told : tie.Need-enum-told Inv-loop μ-loop
 enum-told c = search needs
@@ -111,43 +125,45 @@ stopped-requires-2 : tie.Need-stopped-requires-2 Inv-loop μ-loop
 stopped-requires-2 c κs = search needs
 
 same-length-3 : tie.Need-same-length-3 Inv-loop μ-loop
-same-length-3 c = c .before .before .before .before .before .before .before .before .before .reply-to .kept .0 ∙ c .before .before .before .before .before .before .before .before .before .before .before .before .before .before .before .before .loop .inv .1
+same-length-3 c =
+    called (c .before .before .before) .reply-to .kept .0 ∙ looped (c .before .before .before) .loop .inv .1
 
 same-length-4 : tie.Need-same-length-4 Inv-loop μ-loop
 same-length-4 c = size (c .before .before .before)
 
 returns-2 : tie.Need-returns-2 Inv-loop μ-loop
 returns-2 c =
-    let loop = c .before .before .before .before .before .before .before .before .before .before .before .before .before .before .before .before .loop in
-    let n = c .before .before .before .before .before .before .before .before .before .before .before .before .before .before .next-at in
-    stops-15 _ _ _ _ _ _ _ _ _ _ (n .result) _ _ (loop .inv .0) (c .before .before .before .before .before .before .before .before .before .before .before .before .before .before .before .loop-test .taken) (n .ensures)
-    (c .before .enum-told .given .1) (room (c .before .before .before)) (c .before .before .before .before .before .before .before .before .before .reply-to .ensures) (c .stopped2 .ensures)
+    let at = c .before .before .before in
+    let n = parsed at .next-at in
+    stops-15 _ _ _ _ _ _ _ _ _ _ (n .result) _ _ (looped at .loop .inv .0) (parsed at .before .loop-test .taken)
+    (n .ensures) (c .before .enum-told .given .1) (room at) (called at .reply-to .ensures) (c .stopped2 .ensures)
 
 length-of-requires : tie.Need-length-of-requires Inv-loop μ-loop
-length-of-requires c κs = c .before .before .before .before .before .before .before .before .before .before .before .before .next-at .ensures .counted
+length-of-requires c κs = parsed (c .before) .next-at .ensures .counted
 
 add-read : tie.Need-add-read Inv-loop μ-loop
 add-read c =
-    let w = c .before .before .before .before .before .before .before .before .before .before .before .before .before .next-at .ensures .whole in
+    let at = c .before .before in
+    let w = parsed at .next-at .ensures .whole in
     let e = c .length-of .ensures in
-    record { fits = omega (arith, c .before .before .before .before .before .before .before .before .before .before .before .before .before .before .before .before .before .before .before .before .before .good .1 .1 .0) }
+    record { fits = omega (arith, start at .good .1 .1 .0) }
 
 loop-less : tie.Need-loop-less Inv-loop μ-loop
 loop-less c =
-    falls (c .before .before .before .before .before .before .before .before .before .before .before .before .before .before .before .before .before .before .before .before .before .args .log .now) _ (c .before .before .before .before .before .before .before .before .before .before .before .before .before .next-at .result) _ (c .before .match .keys2) (c .before .before .before .before .before .before .before .before .before .before .before .before .before .before .loop-test .taken)
-    (c .length-of .ensures)
+    let at = c .before .before in
+    falls (start at .args .log .now) _ (parsed at .next-at .result) _ (c .before .match .keys2)
+    (parsed at .before .loop-test .taken) (c .length-of .ensures)
 
 loop-again : tie.Need-loop-again Inv-loop μ-loop
 loop-again c =
-    let loop = c .before .before .before .before .before .before .before .before .before .before .before .before .before .before .before .loop in
-    let n = c .before .before .before .before .before .before .before .before .before .before .before .before .before .next-at in
+    let at = c .before .before in
+    let loop = looped at .loop in
+    let n = parsed at .next-at in
+    let reply = called at .reply-to in
     let g =
-    goes-on _ _ _ _ _ _ _ _ _ _ (n .result) _ (loop .inv .0) (c .before .before .before .before .before .before .before .before .before .before .before .before .before .before .loop-test .taken) (n .ensures) (c .before .match .keys2)
-    (room (c .before .before)) (c .before .before .before .before .before .before .before .before .reply-to .ensures) in (
-      rw (c .length-of .ensures) g,
-      c .before .before .before .before .before .before .before .before .reply-to .kept .0 ∙ loop .inv .1,
-      size (c .before .before),
-    )
+    goes-on _ _ _ _ _ _ _ _ _ _ (n .result) _ (loop .inv .0) (parsed at .before .loop-test .taken) (n .ensures)
+    (c .before .match .keys2) (room at) (reply .ensures) in
+    (rw (c .length-of .ensures) g, reply .kept .0 ∙ loop .inv .1, size at)
 
 stopped-requires-3 : tie.Need-stopped-requires-3 Inv-loop μ-loop
 stopped-requires-3 c κs = search needs
@@ -159,7 +175,8 @@ same-length-6 : tie.Need-same-length-6 Inv-loop μ-loop
 same-length-6 c = c .before .before .loop .inv .2
 
 returns-3 : tie.Need-returns-3 Inv-loop μ-loop
-returns-3 c = stops-end _ _ _ _ _ _ _ _ _ (c .before .before .loop .inv .0) (c .before .loop-test .left) (c .stopped3 .ensures)
+returns-3 c =
+    stops-end _ _ _ _ _ _ _ _ _ (c .before .before .loop .inv .0) (c .before .loop-test .left) (c .stopped3 .ensures)
 
 pub run-spec : {M : Type 1} → statement M
 run-spec =

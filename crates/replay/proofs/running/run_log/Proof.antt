@@ -1,12 +1,13 @@
 -- `replay::running::run_log` meets its contract. The loop's invariant: what is left of the log, run from here, leads to the
 -- whole run. Assumes nothing.
 use Prim.Native.Nat.{_-_, _*_, _+_, _≤_}
-use mathlib.Core.Path.{_≡_, refl, sym, subst, _∙_}
+use mathlib.Core.Path.{_≡_, refl, sym, _∙_}
+use mathlib.Core.Bool.{true, false}
 use native.Mathlib.Omega.{arith}
 use lib.ListN.{length, drop, length-drop}
 use Rattle.rules.specs.State.{state}
-use Rattle.replay.specs.Whole.{PartRun}
-use Rattle.replay.proofs.WholeLaws.{Behind, behind-first, behind-next, behind-end, part-moves, part-left, goes-on, stops}
+use Rattle.replay.specs.Whole.{PartRun, isFull}
+use Rattle.replay.proofs.WholeLaws.{Behind, behind-first, behind-from, behind-next, behind-end, part-moves, part-left, goes-on, stops}
 use borrow.Author.Needs.{needs}
 use Rattle.replay.proofs.running.run_log.Statement.{statement}
 use Rattle.replay.proofs.running.run_log.Tie as tie
@@ -39,66 +40,86 @@ part-run-part-end c = search needs
 run-part-requires : tie.Need-run-part-requires Inv-loop μ-loop
 run-part-requires c κs = search needs
 
--- behind the call of `run_part`: it ran over what is left of the log, and within it
+-- the places before that behind the call of `run_part`: the call, the loop and the start
+abbrev called : tie.After-struct-known Inv-loop μ-loop → tie.After-run-part Inv-loop μ-loop
+called c = c .before .before .before .before .before
+
+abbrev looped : tie.After-struct-known Inv-loop μ-loop → tie.At-loop Inv-loop μ-loop
+looped c = c .before .before .before .before .before .before .before .before
+
+abbrev start : tie.After-struct-known Inv-loop μ-loop → tie.Start Inv-loop μ-loop
+start c = c .before .before .before .before .before .before .before .before .before .before .before .before
+
+-- the call ran over what is left of the log, and within it
 part : (c : tie.After-struct-known Inv-loop μ-loop)
-    → PartRun (state (c .before .before .before .before .before .before .before .before .loop .image) (c .before .before .before .before .before .before .before .before .loop .session)) (drop (c .before .before .before .before .before .before .before .before .loop .read) (c .before .before .before .before .before .before .before .before .before .before .before .before .args .log .now)) (c .before .before .before .before .before .run-part .last .0)
-    (c .before .before .before .before .before .run-part .result .run)
-part c = part-left _ (c .before .before .before .before .before .before .before .before .before .before .before .before .args .log .now) _ (c .before .before .before .before .before .before .before .before .loop .read) _ (c .before .before .before .before .before .run-part .ensures)
+    → PartRun (state (looped c .loop .image) (looped c .loop .session)) (drop (looped c .loop .read) (start c .args .log .now))
+    (called c .run-part .last .0) (called c .run-part .result .run)
+part c = part-left _ (start c .args .log .now) _ (looped c .loop .read) _ (called c .run-part .ensures)
 
 within : (c : tie.After-struct-known Inv-loop μ-loop)
-    → c .before .before .before .before .before .before .before .before .loop .read + c .before .before .before .before .before .run-part .result .run .read ≤ length (c .before .before .before .before .before .before .before .before .before .before .before .before .args .log .now)
+    → looped c .loop .read + called c .run-part .result .run .read ≤ length (start c .args .log .now)
 within c =
     let w = part c .read-within in
-    let i = c .before .before .before .before .before .before .before .before .loop .inv .1 in
-    let l = length-drop (c .before .before .before .before .before .before .before .before .loop .read) (c .before .before .before .before .before .before .before .before .before .before .before .before .args .log .now) in
+    let i = looped c .loop .inv .1 in
+    let l = length-drop (looped c .loop .read) (start c .args .log .now) in
     omega arith
 
 add-read : tie.Need-add-read Inv-loop μ-loop
 add-read c =
     let w = within c in
-    let h = c .before .before .before .before .before .before .before .before .before .before .before .before .pre in
+    let h = start c .pre in
     record { fits = omega arith }
 
 add-written : tie.Need-add-written Inv-loop μ-loop
 add-written c =
     let w = part (c .before) .written-within in
-    let i = c .before .before .before .before .before .before .before .before .before .loop .inv .1 in
-    let j = c .before .before .before .before .before .before .before .before .before .loop .inv .2 in
-    let h = c .before .before .before .before .before .before .before .before .before .before .before .before .before .pre in
+    let i = looped (c .before) .loop .inv .1 in
+    let j = looped (c .before) .loop .inv .2 in
+    let h = start (c .before) .pre in
     record { fits = omega arith }
 
 is-full-requires : tie.Need-is-full-requires Inv-loop μ-loop
 is-full-requires c κs = search needs
 
 same-length : tie.Need-same-length Inv-loop μ-loop
-same-length c = c .before .before .before .before .before .before .before .before .run-part .kept .0 ∙ c .before .before .before .before .before .before .before .before .before .before .before .loop .inv .0
+same-length c = called (c .before .before .before) .run-part .kept .0 ∙ looped (c .before .before .before) .loop .inv .0
 
 returns : tie.Need-returns Inv-loop μ-loop
 returns c =
-    let loop = c .before .before .before .before .before .before .before .before .before .before .before .loop in
-    let a = c .before .before .before .before .before .before .before .before .before .before .before .before .before .before .before .args in
-    let behind = subst (λ v. Behind (state (a .image .now) v) (a .log .now) (state (loop .image) (loop .session)) (loop .read) (loop .written)) (c .before .before .before .before .before .before .before .before .before .before .before .before .power-up .ensures) (loop .inv .3) in
+    let at = c .before .before .before in
+    let loop = looped at .loop in
+    let ran = called at .run-part .result in
+    let a = start at .args in
+    let behind = behind-from (a .image .now) _ _ _ _ _ _ (looped at .before .power-up .ensures) (loop .inv .3) in
+    let ended : ran .printed ≡ true → isFull (ran .run .stop) ≡ false =
+    λ p. sym (c .before .is-full .ensures) ∙ stops _ (ran .printed) (c .if1 .taken) p in
     record {
-      came = λ printed room h.
-          behind-end _ _ _ _ _ _ _ (c .before .before .before .before .before .before .before .before .run-part .result .run) behind (part (c .before .before .before))
-          (sym (c .before .is-full .ensures) ∙ stops _ _ (c .if1 .taken) printed) room h;
+      ended = ended;
+      came = λ p room h. behind-end _ _ _ _ _ _ _ (ran .run) behind (part at) (ended p) room h;
     }
+
+-- where the loop goes on, the buffer was full
+full : (c : tie.Else1 Inv-loop μ-loop) → isFull (called (c .before .before .before) .run-part .result .run .stop) ≡ true
+full c =
+    sym (c .before .is-full .ensures) ∙ goes-on _ (called (c .before .before .before) .run-part .result .printed) (c .if1 .left)
 
 loop-less : tie.Need-loop-less Inv-loop μ-loop
 loop-less c =
-    part-moves (c .before .before .before .before .before .before .before .before .before .before .before .before .before .before .before .args .log .now) _ _ _ (c .before .before .before .before .before .before .before .before .before .before .before .loop .read) _ (part (c .before .before .before)) (sym (c .before .is-full .ensures) ∙ goes-on _ (c .before .before .before .before .before .before .before .before .run-part .result .printed) (c .if1 .left))
+    let at = c .before .before .before in
+    part-moves (start at .args .log .now) _ _ _ (looped at .loop .read) _ (part at) (full c)
 
 loop-again : tie.Need-loop-again Inv-loop μ-loop
 loop-again c =
-    let loop = c .before .before .before .before .before .before .before .before .before .before .before .loop in
-    let full = sym (c .before .is-full .ensures) ∙ goes-on _ (c .before .before .before .before .before .before .before .before .run-part .result .printed) (c .if1 .left) in
-    let m = part-moves (c .before .before .before .before .before .before .before .before .before .before .before .before .before .before .before .args .log .now) _ _ _ (loop .read) _ (part (c .before .before .before)) full in
-    let w = part (c .before .before .before) .written-within in
+    let at = c .before .before .before in
+    let loop = looped at .loop in
+    let ran = called at .run-part in
+    let m = part-moves (start at .args .log .now) _ _ _ (loop .read) _ (part at) (full c) in
+    let w = part at .written-within in
     let j = loop .inv .2 in (
-      c .before .before .before .before .before .before .before .before .run-part .kept .0 ∙ loop .inv .0,
-      within (c .before .before .before),
+      ran .kept .0 ∙ loop .inv .0,
+      within at,
       omega arith,
-      behind-next _ _ _ _ _ _ _ (c .before .before .before .before .before .before .before .before .run-part .result .run) (loop .inv .3) (part (c .before .before .before)) full,
+      behind-next _ _ _ _ _ _ _ (ran .result .run) (loop .inv .3) (part at) (full c),
     )
 
 pub run-log-spec : {M : Type 1} → statement M
