@@ -1,6 +1,8 @@
 // The arguments, and the two files that are read whole. What is wrong with one is said here.
 ghost use Rattle.replay.specs.Inputs.{AtMost, Ended, Held};
 use crate::words::cannot;
+use crate::words::too_long;
+use crate::words::unreadable;
 use crate::words::wrong;
 use libc::STDIN_FILENO;
 
@@ -10,13 +12,13 @@ pub enum Input {
     Failed,
 }
 
-// The argument of that number.
+// The argument of that number, the name of `what`.
 pub fn argument(number: usize, what: &[u8], buffer: &mut [u8]) -> Input
     ensures { λ r. ⌜ Held r (now (buffer .exit)) ⌝ }
 {
     let n = os::arg(number, buffer);
     if os::errno() != 0 {
-        cannot(b"take", what);
+        cannot(b"take the name of", what);
         return Input::Failed;
     }
     Input::Whole(n)
@@ -41,29 +43,6 @@ fn read_all(fd: i32, buffer: &mut [u8]) -> Input
     Input::Whole(done)
 }
 
-fn read_from(fd: i32, what: &[u8], path: &[u8], buffer: &mut [u8]) -> Input
-    ensures { λ r. ⌜ Held r (now (buffer .exit)) ⌝ }
-{
-    let input = read_all(fd, buffer);
-    if let Input::Failed = input {
-        cannot(what, path);
-    }
-    input
-}
-
-fn read_file(what: &[u8], path: &[u8], buffer: &mut [u8]) -> Input
-    ensures { λ r. ⌜ Held r (now (buffer .exit)) ⌝ }
-{
-    let fd = os::open_read(path);
-    if fd < 0 {
-        cannot(what, path);
-        return Input::Failed;
-    }
-    let input = read_from(fd, what, path, buffer);
-    libc::close(fd);
-    input
-}
-
 fn is_dash(path: &[u8]) -> bool {
     if path.len() != 1 {
         return false;
@@ -71,65 +50,68 @@ fn is_dash(path: &[u8]) -> bool {
     path[0] == b'-'
 }
 
-fn use_image(path: &[u8], image: &mut [u8]) -> Input
-    ensures { λ r. ⌜ Ended r (now (image .exit)) ⌝ }
+// Where `-` may stand for it, that is standard input.
+fn open_input(path: &[u8], dash: bool) -> i32 {
+    if dash & is_dash(path) {
+        return STDIN_FILENO;
+    }
+    os::open_read(path)
+}
+
+fn read_path(what: &[u8], path: &[u8], dash: bool, buffer: &mut [u8]) -> Input
+    ensures { λ r. ⌜ Held r (now (buffer .exit)) ⌝ }
 {
-    let Input::Whole(size) = read_file(b"read the image", path, image) else {
-        return Input::Failed;
-    };
-    if size == 0 {
-        wrong(b"the image", path, b"it is empty");
+    let fd = open_input(path, dash);
+    if fd < 0 {
+        unreadable(what, path);
         return Input::Failed;
     }
-    if size == image.len() {
-        wrong(b"the image", path, b"it is longer than 65536 bytes");
+    let input = read_all(fd, buffer);
+    if let Input::Failed = input {
+        unreadable(what, path);
+    }
+    libc::close(fd);
+    input
+}
+
+// The buffer has one byte more than the input may have, so that a longer one is seen.
+fn read_whole(what: &[u8], path: &[u8], dash: bool, least: usize, buffer: &mut [u8]) -> Input
+    ensures { λ r. ⌜ Ended r (now (buffer .exit)) ⌝ }
+{
+    let Input::Whole(size) = read_path(what, path, dash, buffer) else {
+        return Input::Failed;
+    };
+    if size < least {
+        wrong(what, path, b"it is empty");
+        return Input::Failed;
+    }
+    if size == buffer.len() {
+        too_long(what, path, size);
         return Input::Failed;
     }
     Input::Whole(size)
 }
 
-fn use_log(path: &[u8], log: &mut [u8]) -> Input
-    ensures { λ r. ⌜ Ended r (now (log .exit)) ⌝ }
+fn read_input(number: usize, what: &[u8], dash: bool, least: usize, buffer: &mut [u8]) -> Input
+    ensures { λ r. ⌜ Ended r (now (buffer .exit)) ⌝ }
 {
-    let Input::Whole(size) = read_log_file(path, log) else {
+    let mut path = io::buffer();
+    let Input::Whole(n) = argument(number, what, &mut path) else {
         return Input::Failed;
     };
-    if size == log.len() {
-        wrong(b"the log", path, b"it is longer than 1048576 bytes");
-        return Input::Failed;
-    }
-    Input::Whole(size)
+    read_whole(what, &path[..n], dash, least, buffer)
 }
 
-fn read_log_file(path: &[u8], log: &mut [u8]) -> Input
-    ensures { λ r. ⌜ Held r (now (log .exit)) ⌝ }
-{
-    if is_dash(path) {
-        read_from(STDIN_FILENO, b"read the log", path, log)
-    } else {
-        read_file(b"read the log", path, log)
-    }
-}
-
-// The image that the first argument names. The buffer has one byte more than an image may have, so that a longer one is
-// seen.
+// The image that the first argument names.
 pub fn read_image(image: &mut [u8; 65537]) -> Input
     ensures { λ r. ⌜ Held r (now (image .exit)) × AtMost 65536 r ⌝ }
 {
-    let mut path = io::buffer();
-    let Input::Whole(n) = argument(1, b"the name of the image", &mut path) else {
-        return Input::Failed;
-    };
-    use_image(&path[..n], image)
+    read_input(1, b"the image", false, 1, image)
 }
 
 // The log that the second argument names. It may be empty.
 pub fn read_log(log: &mut [u8; 1048577]) -> Input
     ensures { λ r. ⌜ Held r (now (log .exit)) × AtMost 1048576 r ⌝ }
 {
-    let mut path = io::buffer();
-    let Input::Whole(n) = argument(2, b"the name of the log", &mut path) else {
-        return Input::Failed;
-    };
-    use_log(&path[..n], log)
+    read_input(2, b"the log", true, 0, log)
 }

@@ -1,4 +1,4 @@
-// What is said on standard error.
+// What is said on standard error. An error's line begins with `replay: `.
 use libc::STDERR_FILENO;
 
 pub fn say(text: &[u8]) {
@@ -9,21 +9,41 @@ pub fn say_number(n: usize) {
     io::print_decimal(STDERR_FILENO, n as u64);
 }
 
-// An error of the system's: what could not be done, with which file, and why. The reason is that of the call before.
-pub fn cannot(what: &[u8], name: &[u8]) {
+// An error of the system's: what could not be done, with what, and why. The reason is that of the call before.
+pub fn cannot(doing: &[u8], what: &[u8]) {
     say(b"replay: cannot ");
-    say(what);
+    say(doing);
     say(b" ");
-    os::fail(name);
+    os::fail(what);
 }
 
-// What is wrong with a file that was read.
-pub fn wrong(what: &[u8], name: &[u8], fault: &[u8]) {
+// The same of a file that could not be read.
+pub fn unreadable(what: &[u8], path: &[u8]) {
+    say(b"replay: cannot read ");
+    say(what);
+    say(b" ");
+    os::fail(path);
+}
+
+fn say_unfit(what: &[u8], path: &[u8]) {
     say(b"replay: cannot use ");
     say(what);
     say(b" ");
-    say(name);
+    say(path);
     say(b": ");
+}
+
+// What is wrong with a file that was read.
+pub fn wrong(what: &[u8], path: &[u8], fault: &[u8]) {
+    say_unfit(what, path);
     say(fault);
     say(b"\n");
+}
+
+// It has this many bytes or more, where fewer are taken.
+pub fn too_long(what: &[u8], path: &[u8], size: usize) {
+    say_unfit(what, path);
+    say(b"it has ");
+    say_number(size);
+    say(b" bytes or more, and fewer are taken\n");
 }

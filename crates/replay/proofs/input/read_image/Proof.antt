@@ -1,60 +1,19 @@
 -- `replay::input::read_image` meets its contract: the buffer has one byte more than an image may have. Assumes nothing.
+use Rattle.replay.proofs.Laws.{ended}
 use borrow.Author.Needs.{needs}
-use Rattle.replay.proofs.Laws.{held, ended}
 use Rattle.replay.proofs.input.read_image.Statement.{statement}
 use Rattle.replay.proofs.input.read_image.Tie as tie
 
-buffer-requires : tie.Need-buffer-requires
-buffer-requires c κs = search needs
+slice-aggregate-read-input : tie.Need-slice-aggregate-read-input
+slice-aggregate-read-input c = search needs
 
-slice-aggregate-argument : tie.Need-slice-aggregate-argument
-slice-aggregate-argument c = search needs
-
-slice-aggregate-argument-2 : tie.Need-slice-aggregate-argument-2
-slice-aggregate-argument-2 c = search needs
-
-argument-requires : tie.Need-argument-requires
-argument-requires c κs = search needs
-
-enum-known-n : tie.Need-enum-known-n
-enum-known-n c = search needs
-
-enum-told : tie.Need-enum-told
-enum-told c = search needs
+read-input-requires : tie.Need-read-input-requires
+read-input-requires c κs = search needs
 
 returns : tie.Need-returns
-returns c = search needs
-
-array-share-prefix-path : tie.Need-array-share-prefix-path
-array-share-prefix-path c =
-    let got = c .before in
-    held _ _ _ (got .n .given .1) (got .before .before .before .argument .ensures) .0
-
-slice-aggregate-use-image : tie.Need-slice-aggregate-use-image
-slice-aggregate-use-image c =
-    let got = c .before .before in
-    held _ _ _ (got .n .given .1) (got .before .before .before .argument .ensures) .1
-
-use-image-requires : tie.Need-use-image-requires
-use-image-requires c κs = search needs
-
-returns-2 : tie.Need-returns-2
-returns-2 c =
-    let got = c .use-image in
-    ended (got .result) 65536 (got .last .1 .0) (search needs) (got .ensures)
+returns c =
+    let got = c .read-input in
+    ended (got .result) 65536 _ (search needs) (got .ensures)
 
 pub read-image-spec : {M : Type 1} → statement M
-read-image-spec =
-    tie.close
-    (tie.spec
-    buffer-requires
-    slice-aggregate-argument
-    slice-aggregate-argument-2
-    argument-requires
-    enum-known-n
-    enum-told
-    returns
-    array-share-prefix-path
-    slice-aggregate-use-image
-    use-image-requires
-    returns-2)
+read-image-spec = tie.close (tie.spec slice-aggregate-read-input read-input-requires returns)

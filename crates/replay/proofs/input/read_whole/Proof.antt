@@ -1,12 +1,12 @@
--- `replay::input::use_log` meets its contract: the log is whole, and shorter than the buffer. Assumes nothing.
+-- `replay::input::read_whole` meets its contract: the input is whole, and shorter than the buffer. Assumes nothing.
 use native.Mathlib.Omega.{arith}
-use borrow.Author.Needs.{needs}
 use Rattle.replay.proofs.Laws.{held}
-use Rattle.replay.proofs.input.use_log.Statement.{statement}
-use Rattle.replay.proofs.input.use_log.Tie as tie
+use borrow.Author.Needs.{needs}
+use Rattle.replay.proofs.input.read_whole.Statement.{statement}
+use Rattle.replay.proofs.input.read_whole.Tie as tie
 
-read-log-file-requires : tie.Need-read-log-file-requires
-read-log-file-requires c κs = search needs
+read-path-requires : tie.Need-read-path-requires
+read-path-requires c κs = search needs
 
 enum-known-size : tie.Need-enum-known-size
 enum-known-size c = search needs
@@ -23,9 +23,6 @@ returns c = search needs
 slice-aggregate-wrong : tie.Need-slice-aggregate-wrong
 slice-aggregate-wrong c = search needs
 
-slice-aggregate-wrong-2 : tie.Need-slice-aggregate-wrong-2
-slice-aggregate-wrong-2 c = search needs
-
 wrong-requires : tie.Need-wrong-requires
 wrong-requires c κs = search needs
 
@@ -35,28 +32,39 @@ same-length-2 c = search needs
 returns-2 : tie.Need-returns-2
 returns-2 c = search needs
 
+too-long-requires : tie.Need-too-long-requires
+too-long-requires c κs = search needs
+
 same-length-3 : tie.Need-same-length-3
 same-length-3 c = search needs
 
 returns-3 : tie.Need-returns-3
-returns-3 c =
-    let got = c .before .before in
-    let counts = held _ _ _ (got .size .given .1) (got .before .before .before .before .read-log-file .ensures) in
+returns-3 c = search needs
+
+same-length-4 : tie.Need-same-length-4
+same-length-4 c = search needs
+
+returns-4 : tie.Need-returns-4
+returns-4 c =
+    let got = c .before .before .before in
+    let counts = held _ _ _ (got .size .given .1) (got .before .before .before .before .read-path .ensures) in
     (counts, omega (arith, counts .0))
 
-pub use-log-spec : {M : Type 1} → statement M
-use-log-spec =
+pub read-whole-spec : {M : Type 1} → statement M
+read-whole-spec =
     tie.close
     (tie.spec
-    read-log-file-requires
+    read-path-requires
     enum-known-size
     enum-told
     same-length
     returns
     slice-aggregate-wrong
-    slice-aggregate-wrong-2
     wrong-requires
     same-length-2
     returns-2
+    too-long-requires
     same-length-3
-    returns-3)
+    returns-3
+    same-length-4
+    returns-4)
