@@ -18,19 +18,48 @@ fn mix(y: u32, z: u32, sum: u32, key: &[u32; 4], p: usize) -> u32 {
 
 /// Enciphers in place, or refuses with nothing changed.
 pub fn encipher(words: &mut [u32], key: [u32; 4]) -> Result<(), u8> {
+    let rounds = rounds(words.len()).ok_or(WORD_COUNT)?;
+    encipher_rounds(words, rounds, &key);
+    Ok(())
+}
+
+/// Enciphers a block of 16 bytes. Block and key are split into four words each, low byte first.
+pub fn encipher_block(block: &[u8; 16], key: &[u8; 16]) -> [u8; 16] {
+    let mut words = split(block);
+    encipher_rounds(&mut words, 6 + 52 / 4, &split(key));
+    join(words)
+}
+
+/// The rounds themselves, in line so that a block of known length needs no inner loop.
+#[inline(always)]
+fn encipher_rounds(words: &mut [u32], rounds: u32, key: &[u32; 4]) {
     let n = words.len();
-    let rounds = rounds(n).ok_or(WORD_COUNT)?;
     let mut z = words[n - 1];
     let mut sum = 0u32;
     for _ in 0..rounds {
         sum = sum.wrapping_add(D);
         for p in 0..n {
             let y = words[if p + 1 == n { 0 } else { p + 1 }];
-            z = words[p].wrapping_add(mix(y, z, sum, &key, p));
+            z = words[p].wrapping_add(mix(y, z, sum, key, p));
             words[p] = z;
         }
     }
-    Ok(())
+}
+
+fn split(bytes: &[u8; 16]) -> [u32; 4] {
+    let mut words = [0; 4];
+    for (word, part) in words.iter_mut().zip(bytes.chunks_exact(4)) {
+        *word = u32::from_le_bytes([part[0], part[1], part[2], part[3]]);
+    }
+    words
+}
+
+fn join(words: [u32; 4]) -> [u8; 16] {
+    let mut bytes = [0; 16];
+    for (part, word) in bytes.chunks_exact_mut(4).zip(words) {
+        part.copy_from_slice(&word.to_le_bytes());
+    }
+    bytes
 }
 
 /// Deciphers in place, or refuses with nothing changed.
@@ -87,6 +116,29 @@ mod tests {
             assert_eq!(block, words::<2>(result));
             assert_eq!(decipher(&mut block, words(key)), Ok(()));
             assert_eq!(block, words::<2>(data));
+        }
+    }
+
+    #[test]
+    fn block_of_counter_1() {
+        let key = std::array::from_fn(|i| i as u8);
+        let block = 1u128.to_be_bytes();
+        let result = 0x4500_2CDB_6910_E3DC_8618_57C7_2040_41FA_u128.to_be_bytes();
+        assert_eq!(encipher_block(&block, &key), result);
+        let mut words = split(&block);
+        assert_eq!(encipher(&mut words, split(&key)), Ok(()));
+        assert_eq!(join(words), result);
+        assert_eq!(decipher(&mut words, split(&key)), Ok(()));
+        assert_eq!(join(words), block);
+    }
+
+    #[test]
+    fn other_word_counts_are_refused() {
+        for n in [0, 1, 1025] {
+            let mut words = vec![5; n];
+            assert_eq!(encipher(&mut words, [1; 4]), Err(WORD_COUNT));
+            assert_eq!(decipher(&mut words, [1; 4]), Err(WORD_COUNT));
+            assert_eq!(words, vec![5; n]);
         }
     }
 

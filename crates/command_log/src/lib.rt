@@ -110,7 +110,7 @@ pub fn room_of(next: Next) -> usize
 }
 
 // The number of a refusal.
-fn number_of(refusal: Refusal) -> u8
+pub fn number_of(refusal: Refusal) -> u8
     ensures { λ r. ⌜ r ≡ numberOf refusal ⌝ }
 {
     match refusal {

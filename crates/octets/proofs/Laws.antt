@@ -6,7 +6,7 @@ use mathlib.Core.Bool.{Bool, true, false, _&&_}
 use mathlib.Core.List.{List, [], _∷_, _++_}
 use native.Mathlib.Omega.{arith}
 use native.Mathlib.Numerals.{add-one}
-use lib.ListN.{length, getD, take, drop, set, length-set, take-append-drop, drop-of-length-le, length-drop}
+use lib.ListN.{length, getD, take, drop, set, replicate, length-set, take-append-drop, drop-of-length-le, length-drop}
 use lib.Seq.{length-take-le}
 use borrow.Rule.Slice.PartMut.{putMid, midOf}
 use lib.Bits.{bitXor, xor-comm}
@@ -216,6 +216,14 @@ put-whole [] [] e = refl
 put-whole (b ∷ bs) [] e = absurd (omega arith)
 put-whole [] (x ∷ t) e = absurd (omega arith)
 put-whole (b ∷ bs) (x ∷ t) e = ap (λ l. b ∷ l) (put-whole bs t (omega arith))
+
+-- sixteen bytes make a block
+pub block-whole : (bs : List ℕ) → length bs ≡ 16 → put 0 bs (replicate 16 0) ≡ bs
+block-whole bs e = put-whole bs (replicate 16 0) e
+
+pub block-lent : (a : ℕ) (t : List ℕ) → a + 16 ≤ length t
+    → put 0 (midOf a (a + 16 - a) t) (replicate 16 0) ≡ part a 16 t
+block-lent a t h = rw (part-lent a 16 t) (block-whole (part a 16 t) (length-lent a 16 t h))
 
 put-middle : (a : ℕ) (bs t : List ℕ) → a + length bs ≤ length t
     → take a t ++ (bs ++ drop (length bs) (drop a t)) ≡ put a bs t

@@ -25,20 +25,13 @@ use Rattle.rules.specs.State.{state, pinIndex, ownerIndex, guard, pin, owner, r
 use Rattle.rules.specs.Refusals.{Checks, _when_else_, granted, lowest, registerChecks, responseChecks, nameChecks, commitChecks, plainChecks}
 use Rattle.rules.specs.Effects.{apply, registerStores, registerSession}
 use Rattle.rules.proofs.Tests.{passes, or-false, gives, leaves, none-applies, joined-three}
-use Rattle.octets.proofs.Laws.{part-lent, length-lent, put-whole, set-put}
+use Rattle.octets.proofs.Laws.{part-lent, length-lent, put-whole, block-whole, set-put}
 use Rattle.xxtea.specs.Block.{E}
 use Rattle.registers.specs.Registers.{pinChecks, guardChecks, Taken}
 
 -- ---- blocks
 
--- sixteen bytes make a block, and so do the eight bytes of the counter behind eight zeros
-pub block-whole : (bs : List ℕ) → length bs ≡ 16 → put 0 bs (replicate 16 0) ≡ bs
-block-whole bs e = put-whole bs (replicate 16 0) e
-
-pub block-lent : (a : ℕ) (t : List ℕ) → a + 16 ≤ length t
-    → put 0 (midOf a (a + 16 - a) t) (replicate 16 0) ≡ part a 16 t
-block-lent a t h = rw (part-lent a 16 t) (block-whole (part a 16 t) (length-lent a 16 t h))
-
+-- the eight bytes of the counter behind eight zeros make a block
 counter-behind : (bs : List ℕ) → length bs ≡ 8 → put 8 bs (replicate 16 0) ≡ replicate 8 0 ++ bs
 unfolding put
 counter-behind bs e = ap (λ l. replicate 8 0 ++ l) (put-whole bs (replicate 8 0) e)

@@ -24,4 +24,5 @@ pub mod Calls
 pub mod RunLaws
 pub mod Runs
 pub mod Told
+pub mod CCalls
 pub mod Theorems

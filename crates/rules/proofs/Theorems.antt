@@ -11,6 +11,7 @@ use Rattle.rules.proofs.Demand3.{demand-3}
 use Rattle.rules.proofs.Calls.{calls-follow, calls-demand-3, refused-leaves, refused-reads}
 use Rattle.rules.proofs.RunLaws.{runs-continue}
 use Rattle.rules.proofs.Runs.{runs-leave, runs-demand-3}
+use Rattle.rules.proofs.CCalls.{called-is-call, nothing-lost, session-fits}
 use Rattle.rules.proofs.LogLaws.{log-is-its-commands}
 use Rattle.rules.proofs.LogDemand3.{log-demand-3}
 use Rattle.rules.proofs.FourCommands.{host-reads}
@@ -29,6 +30,9 @@ theorems =
       runs-demand-3 = runs-demand-3;
       runs-leave = runs-leave;
       runs-continue = runs-continue;
+      called-is-call = called-is-call;
+      nothing-lost = nothing-lost;
+      session-fits = session-fits;
       lowest-given = lowest-given;
       refusal-named = refusal-named;
       answers-told = answers-told;

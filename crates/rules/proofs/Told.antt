@@ -1,47 +1,42 @@
 -- An answer and a stop are told by their numbers: each can be read back. Assumes nothing.
-use Prim.Native.Nat.{ℕ, _-_}
+use Prim.Native.Nat.{ℕ}
 use mathlib.Core.Path.{_≡_, refl, sym, ap, _∙_}
 use mathlib.Core.Bool.{cond}
 use mathlib.Core.List.{List, [], _∷_}
-use mathlib.Core.Option.{Option, none, some}
 use lib.ListN.{getD}
 use lib.Dec.{eqb}
 use Rattle.rules.specs.declared.Answer.{Answer}
 use Rattle.rules.specs.declared.Answer.the-variants.{Done, Refused}
-use Rattle.rules.specs.declared.Refusal.{Refusal}
 use Rattle.rules.specs.declared.Refusal.the-variants.{Unsound, Count, Outside, NeverTaken, Malformed, Forbidden, OtherPin, OtherName, BadRegister, FlagUsed, WrongResponse, NotNext, BadEdit, NoAdvance, Unreadable, NoRoom}
 use Rattle.rules.specs.declared.Stop.{Stop}
 use Rattle.rules.specs.declared.Stop.the-variants.{End, BadCommand, OutputFull}
-use Rattle.rules.specs.Answers.{refusalOf, stopNumber}
+use Rattle.rules.specs.Answers.{refusalOf, stopNumber, codeOf}
 use Rattle.rules.specs.Claims.{AnswersTold}
 
--- the refusals in the order of their numbers
-refusals : List Refusal
-refusals =
-    Unsound
-    ∷ Count
-    ∷ Outside
-    ∷ NeverTaken
-    ∷ Malformed
-    ∷ Forbidden
-    ∷ OtherPin
-    ∷ OtherName
-    ∷ BadRegister
-    ∷ FlagUsed
-    ∷ WrongResponse
-    ∷ NotNext
-    ∷ BadEdit
-    ∷ NoAdvance
-    ∷ Unreadable
-    ∷ NoRoom
+-- the answers in the order of their numbers
+answers : List Answer
+answers =
+    Done
+    ∷ Refused Unsound
+    ∷ Refused Count
+    ∷ Refused Outside
+    ∷ Refused NeverTaken
+    ∷ Refused Malformed
+    ∷ Refused Forbidden
+    ∷ Refused OtherPin
+    ∷ Refused OtherName
+    ∷ Refused BadRegister
+    ∷ Refused FlagUsed
+    ∷ Refused WrongResponse
+    ∷ Refused NotNext
+    ∷ Refused BadEdit
+    ∷ Refused NoAdvance
+    ∷ Refused Unreadable
+    ∷ Refused NoRoom
     ∷ []
 
-answerBy : Option ℕ → Answer
-answerBy none = Done
-answerBy (some n) = Refused (getD refusals (n - 1) Unsound)
-
-read-back : (a : Answer) → answerBy (refusalOf a) ≡ a
-unfolding answerBy refusals
+read-back : (a : Answer) → getD answers (codeOf (refusalOf a)) Done ≡ a
+unfolding answers
 read-back Done = refl
 read-back (Refused Unsound) = refl
 read-back (Refused Count) = refl
@@ -60,19 +55,26 @@ read-back (Refused NoAdvance) = refl
 read-back (Refused Unreadable) = refl
 read-back (Refused NoRoom) = refl
 
-stopBy : Option ℕ → Stop
-stopBy none = End
-stopBy (some n) = cond (eqb n 15) BadCommand OutputFull
+stopBy : ℕ → Stop
+stopBy n = cond (eqb n 0) End (cond (eqb n 15) BadCommand OutputFull)
 
-stop-back : (x : Stop) → stopBy (stopNumber x) ≡ x
+stop-back : (x : Stop) → stopBy (codeOf (stopNumber x)) ≡ x
 unfolding stopBy
 stop-back End = refl
 stop-back BadCommand = refl
 stop-back OutputFull = refl
 
+code-told : (a b : Answer) → codeOf (refusalOf a) ≡ codeOf (refusalOf b) → a ≡ b
+code-told a b e = sym (read-back a) ∙ ap (λ n. getD answers n Done) e ∙ read-back b
+
+stop-code-told : (a b : Stop) → codeOf (stopNumber a) ≡ codeOf (stopNumber b) → a ≡ b
+stop-code-told a b e = sym (stop-back a) ∙ ap stopBy e ∙ stop-back b
+
 pub answers-told : AnswersTold
 answers-told =
     record {
-      answer-told = λ a b e. sym (read-back a) ∙ ap answerBy e ∙ read-back b;
-      stop-told = λ a b e. sym (stop-back a) ∙ ap stopBy e ∙ stop-back b;
+      answer-told = λ a b e. code-told a b (ap codeOf e);
+      stop-told = λ a b e. stop-code-told a b (ap codeOf e);
+      code-told = code-told;
+      stop-code-told = stop-code-told;
     }

@@ -36,3 +36,8 @@ abbrev pub stopNumber : Stop → Option ℕ
 stopNumber End = none
 stopNumber BadCommand = some 15
 stopNumber OutputFull = some 16
+
+-- a refusal or a stop as C sees it: its number, and 0 where there is none
+abbrev pub codeOf : Option ℕ → ℕ
+codeOf none = 0
+codeOf (some n) = n

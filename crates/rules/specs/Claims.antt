@@ -18,7 +18,7 @@ use Rattle.rules.specs.Bytes.{byte, put, part}
 use Rattle.rules.specs.Map.{Row, row, rows, segments, publics, placeOf, flag, sound}
 use Rattle.rules.specs.Units.{unitBytes, unitOf, bit}
 use Rattle.rules.specs.State.{Cipher, State}
-use Rattle.rules.specs.Answers.{numberOf, refusalOf, stopNumber}
+use Rattle.rules.specs.Answers.{numberOf, refusalOf, stopNumber, codeOf}
 use Rattle.rules.specs.Refusals.{Checks, granted, _when_else_}
 use Rattle.rules.specs.Effects.{readOnly, advanced}
 use Rattle.rules.specs.Command.{Command, refusal, checks, reply, refused, filled, after, read, advance, write, powerUp}
@@ -76,6 +76,8 @@ pub record RefusalNamed (n : ℕ) : Type 0 where
 pub record AnswersTold : Type 0 where
   pub answer-told : (a b : Answer) → refusalOf a ≡ refusalOf b → a ≡ b
   pub stop-told : (a b : Stop) → stopNumber a ≡ stopNumber b → a ≡ b
+  pub code-told : (a b : Answer) → codeOf (refusalOf a) ≡ codeOf (refusalOf b) → a ≡ b
+  pub stop-code-told : (a b : Stop) → codeOf (stopNumber a) ≡ codeOf (stopNumber b) → a ≡ b
 
 -- ---- "A refused command .. returns its number alone and changes nothing, except 11, which sets the flag."
 

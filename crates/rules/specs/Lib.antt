@@ -12,6 +12,7 @@ pub mod Log
 pub mod Demand3
 pub mod Calls
 pub mod Runs
+pub mod CCalls
 pub mod Claims
 pub mod FourCommands
 pub mod Examples

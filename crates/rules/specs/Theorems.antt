@@ -1,5 +1,5 @@
 -- All that is proved of the rules, in one record. Each line says of which ciphers, states and commands a claim holds;
--- the claims themselves stand in Demand3, Calls, Runs, Claims, FourCommands and Examples. Assumes nothing.
+-- the claims themselves stand in Demand3, Calls, Runs, CCalls, Claims, FourCommands and Examples. Assumes nothing.
 use Prim.Native.Nat.{ℕ, _<_}
 use mathlib.Core.Path.{_≡_}
 use mathlib.Core.Bool.{true}
@@ -12,6 +12,7 @@ use Rattle.rules.specs.Command.{Command, refusal}
 use Rattle.rules.specs.Demand3.{Demand3, LogDemand3}
 use Rattle.rules.specs.Calls.{CallsFollow, CallsDemand3, RefusedLeaves, RefusedReads}
 use Rattle.rules.specs.Runs.{RunsDemand3, RunsLeave, RunsContinue}
+use Rattle.rules.specs.CCalls.{CalledIsCall, NothingLost, SessionFits}
 use Rattle.rules.specs.Claims.{LowestGiven, RefusalNamed, AnswersTold, RefusedChangesNothing, TheMap, NoSpare, Sizes, SoundStays, LockedUnit, MovesExact, PowerUpClears, OneAnswerEach, LogIsItsCommands}
 use Rattle.rules.specs.FourCommands.{HostReads}
 use Rattle.rules.specs.Examples.{starred, Hold, stages, errors, NotEmpty, RepeatsChange}
@@ -30,6 +31,10 @@ pub record Theorems : Type 0 where
   pub runs-demand-3 : (E : Cipher) (s : State) → sound (s .tag) ≡ true → RunsDemand3 E s
   pub runs-leave : (E : Cipher) (s : State) → RunsLeave E s
   pub runs-continue : (E : Cipher) (s : State) → RunsContinue E s
+  -- the same calls from C, with the session as 54 bytes
+  pub called-is-call : (E : Cipher) → CalledIsCall E
+  pub nothing-lost : NothingLost
+  pub session-fits : (E : Cipher) (s : State) → SessionFits E s
   -- refusals
   pub lowest-given : (E : Cipher) (s : State) (c : Command) → LowestGiven E s c
   pub refusal-named : (E : Cipher) (s : State) (c : Command) (n : ℕ) → refusal E s c ≡ some n → RefusalNamed n

@@ -3,8 +3,7 @@ use Prim.Native.Nat.{_+_, _*_}
 use mathlib.Core.Path.{_∙_}
 use native.Mathlib.Omega.{arith}
 use Rattle.rules.specs.State.{owner}
-use Rattle.octets.proofs.Laws.{part-lent}
-use Rattle.registers.proofs.Laws.{block-whole, block-lent}
+use Rattle.octets.proofs.Laws.{part-lent, block-whole, block-lent}
 use borrow.Author.Needs.{needs}
 use Rattle.registers.proofs.guard_fits.Statement.{statement}
 use Rattle.registers.proofs.guard_fits.Tie as tie

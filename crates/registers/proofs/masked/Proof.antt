@@ -1,6 +1,6 @@
 -- `registers::masked` meets its contract. Assumes nothing.
 use mathlib.Core.Path.{_∙_}
-use Rattle.registers.proofs.Laws.{block-whole}
+use Rattle.octets.proofs.Laws.{block-whole}
 use borrow.Author.Needs.{needs}
 use Rattle.registers.proofs.masked.Statement.{statement}
 use Rattle.registers.proofs.masked.Tie as tie

@@ -2,7 +2,8 @@
 use mathlib.Core.Path.{_∙_}
 use native.Mathlib.Omega.{arith}
 use Rattle.rules.specs.State.{response, encipheredCounter}
-use Rattle.registers.proofs.Laws.{block-lent, counter-lent}
+use Rattle.octets.proofs.Laws.{block-lent}
+use Rattle.registers.proofs.Laws.{counter-lent}
 use borrow.Author.Needs.{needs}
 use Rattle.registers.proofs.response.Statement.{statement}
 use Rattle.registers.proofs.response.Tie as tie

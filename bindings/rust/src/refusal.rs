@@ -1,0 +1,90 @@
+//! The refusals 1 to 14.
+
+use std::fmt;
+
+/// Why a command was refused. The discriminant is the refusal's number.
+#[derive(Clone, Copy, Debug, PartialEq, Eq)]
+#[repr(u8)]
+pub enum Refusal {
+    Unsound = 1,
+    Count = 2,
+    Outside = 3,
+    NeverTaken = 4,
+    Malformed = 5,
+    Forbidden = 6,
+    OtherPin = 7,
+    OtherName = 8,
+    BadRegister = 9,
+    FlagUsed = 10,
+    WrongResponse = 11,
+    NotNext = 12,
+    BadEdit = 13,
+    NoAdvance = 14,
+}
+
+/// Each refusal with its meaning, in the order of the numbers.
+const REFUSALS: [(Refusal, &str); 14] = [
+    (Refusal::Unsound, "the tag is not sound"),
+    (
+        Refusal::Count,
+        "count 0 or above 4,096, or an output shorter than the count",
+    ),
+    (Refusal::Outside, "not inside one place of the map, or no such segment"),
+    (Refusal::NeverTaken, "the place never takes such a command"),
+    (Refusal::Malformed, "the unit is not well formed"),
+    (
+        Refusal::Forbidden,
+        "RD or WR is clear, the unit is locked, or the name is covered",
+    ),
+    (Refusal::OtherPin, "the validated PIN index is not the unit's"),
+    (Refusal::OtherName, "the session's name is not the unit's"),
+    (
+        Refusal::BadRegister,
+        "a register write that is not 16 bytes, or an index in PA that is too high",
+    ),
+    (
+        Refusal::FlagUsed,
+        "this value of the roll-back counter was used already",
+    ),
+    (Refusal::WrongResponse, "the response or the guard is wrong"),
+    (Refusal::NotNext, "not one aligned slot, or not the next value"),
+    (Refusal::BadEdit, "the result of the edit is not allowed"),
+    (Refusal::NoAdvance, "not model 3, or at its last stage"),
+];
+
+impl Refusal {
+    pub fn number(self) -> u8 {
+        self as u8
+    }
+
+    /// The answer that the library gives by its number.
+    pub(crate) fn answer(number: u8) -> Result<(), Refusal> {
+        match number {
+            0 => Ok(()),
+            1..=14 => Err(REFUSALS[usize::from(number) - 1].0),
+            other => unreachable!("a command answers 0 to 14, and not {other}"),
+        }
+    }
+}
+
+impl fmt::Display for Refusal {
+    fn fmt(&self, f: &mut fmt::Formatter<'_>) -> fmt::Result {
+        let meaning = REFUSALS[usize::from(self.number()) - 1].1;
+        write!(f, "refusal {}: {meaning}", self.number())
+    }
+}
+
+impl std::error::Error for Refusal {}
+
+#[cfg(test)]
+mod tests {
+    use super::*;
+
+    #[test]
+    fn each_number_is_its_refusals() {
+        assert_eq!(Refusal::answer(0), Ok(()));
+        for number in 1..=14 {
+            assert_eq!(Refusal::answer(number).unwrap_err().number(), number);
+        }
+    }
+}

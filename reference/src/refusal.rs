@@ -1,0 +1,81 @@
+//! The refusals and the answer of a command.
+
+/// Why a command was refused. The discriminant is the number that document 01 gives it.
+#[derive(Clone, Copy, Debug, PartialEq, Eq)]
+#[repr(u8)]
+pub enum Refusal {
+    /// The tag is not sound.
+    Unsound = 1,
+    /// The count is 0 or above 4,096, or the output is shorter than the count.
+    BadCount = 2,
+    /// The command is not inside one place, or there is no such segment.
+    OutsidePlace = 3,
+    /// The place never takes such a command.
+    NeverTaken = 4,
+    /// The unit is not well formed.
+    MalformedUnit = 5,
+    /// RD or WR is clear, nE is set, or the name is covered.
+    NoRight = 6,
+    /// The validated PIN index is not the unit's.
+    WrongIndex = 7,
+    /// The session's name is not the unit's.
+    WrongName = 8,
+    /// A register write that is not 16 bytes, or an index in PA that is out of range.
+    BadRegisterWrite = 9,
+    /// The usage flag is already 1.
+    FlagSet = 10,
+    /// The response or the guard is wrong. This alone of the refusals sets the flag.
+    WrongResponse = 11,
+    /// Not one aligned slot, or not the next value of the slot or counter.
+    NotNextValue = 12,
+    /// The result of the edit is not allowed.
+    BadEdit = 13,
+    /// There is no further stage to advance to.
+    NoNextStage = 14,
+}
+
+impl Refusal {
+    /// The number that stands in a reply.
+    pub fn number(self) -> u8 {
+        self as u8
+    }
+}
+
+/// Granted, or refused with a reason.
+pub type Answer = Result<(), Refusal>;
+
+/// Granted if the condition holds.
+#[inline]
+pub(crate) fn require(condition: bool, otherwise: Refusal) -> Answer {
+    if condition {
+        Ok(())
+    } else {
+        Err(otherwise)
+    }
+}
+
+#[cfg(test)]
+mod tests {
+    use super::*;
+
+    #[test]
+    fn numbers_are_the_documents() {
+        let all = [
+            Refusal::Unsound,
+            Refusal::BadCount,
+            Refusal::OutsidePlace,
+            Refusal::NeverTaken,
+            Refusal::MalformedUnit,
+            Refusal::NoRight,
+            Refusal::WrongIndex,
+            Refusal::WrongName,
+            Refusal::BadRegisterWrite,
+            Refusal::FlagSet,
+            Refusal::WrongResponse,
+            Refusal::NotNextValue,
+            Refusal::BadEdit,
+            Refusal::NoNextStage,
+        ];
+        assert!(all.iter().zip(1..).all(|(refusal, number)| refusal.number() == number));
+    }
+}
