@@ -92,7 +92,8 @@ pub extern "C" fn dringoleth_read(
     ensures { λ r. ⌜ Called E (state (now (tag .entry)) (sessionOf (now (session .entry)))) (command.read address count (length (now (output .entry)))) r (now (tag .entry)) (now (session .entry)) ⌝ }
     ensures { λ _. ⌜ now (output .exit) ≡ filled (reply E (state (now (tag .entry)) (sessionOf (now (session .entry)))) (command.read address count (length (now (output .entry))))) (now (output .entry)) ⌝ }
 {
-    let outcome = tag::read(tag, session_of(session), address, count, output);
+    let before = session_of(session);
+    let outcome = tag::read(tag, before, address, count, output);
     let answer = outcome.answer;
     number_of(answer)
 }
@@ -106,7 +107,8 @@ pub extern "C" fn dringoleth_write(
 ) -> u8
     ensures { λ r. ⌜ Called E (state (now (tag .entry)) (sessionOf (now (session .entry)))) (command.write address (now («data» .entry))) r (now (tag .exit)) (now (session .exit)) ⌝ }
 {
-    let outcome = tag::write(tag, session_of(session), address, data);
+    let before = session_of(session);
+    let outcome = tag::write(tag, before, address, data);
     let answer = outcome.answer;
     let after = outcome.session;
     keep(session, after);
@@ -117,7 +119,8 @@ pub extern "C" fn dringoleth_write(
 pub extern "C" fn dringoleth_advance(tag: &mut [u8], session: &[u8; 54], segment: usize) -> u8
     ensures { λ r. ⌜ Called E (state (now (tag .entry)) (sessionOf (now (session .entry)))) (command.advance segment) r (now (tag .exit)) (now (session .entry)) ⌝ }
 {
-    let outcome = tag::advance(tag, session_of(session), segment);
+    let before = session_of(session);
+    let outcome = tag::advance(tag, before, segment);
     let answer = outcome.answer;
     number_of(answer)
 }
@@ -133,7 +136,8 @@ pub extern "C" fn dringoleth_run(
 ) -> u8
     ensures { λ r. ⌜ RunCalled E (state (now (tag .entry)) (sessionOf (now (session .entry)))) (now (log .entry)) (now (output .entry)) r (now («bytes_read» .exit)) (now («bytes_written» .exit)) (now (tag .exit)) (now (session .exit)) (now (output .exit)) ⌝ }
 {
-    let run = tag::run(tag, session_of(session), log, output);
+    let before = session_of(session);
+    let run = tag::run(tag, before, log, output);
     let last = run.session;
     let stop = run.stop;
     keep(session, last);

@@ -21,7 +21,7 @@ same-length c = search needs
 returns : tie.Need-returns
 returns c =
     let at = c .before .before .before in
-    let made = at .before .session-of .ensures in
+    let made = at .before .before .session-of .ensures in
     leaves-session _ _ _ _ _ _ _ (made .1) (made .0) (unfold newSession in refl) (c .number-of .ensures) (at .advance .ensures)
 
 pub dringoleth-advance-spec : {M : Type 1} → statement M

@@ -25,7 +25,7 @@ same-length-2 c = search needs
 returns : tie.Need-returns
 returns c =
     let at = c .before .before .before .before .before .before .before .before in
-    let made = at .before .before .session-of .ensures in
+    let made = at .before .before .before .session-of .ensures in
     keeps-run _ _ _ _ _ _ _ _ _ (at .run .result) (made .1) (made .0) (at .run .ensures) (c .number-of-stop .ensures) (c .before .keep .ensures)
 
 pub dringoleth-run-spec : {M : Type 1} → statement M

@@ -22,7 +22,7 @@ same-length c = search needs
 returns : tie.Need-returns
 returns c =
     let at = c .before .before .before .before .before .before in
-    let made = at .before .session-of .ensures in
+    let made = at .before .before .session-of .ensures in
     keeps-session _ _ _ _ _ _ _ _ (made .1) (made .0) (c .number-of .ensures) (at .write .ensures) (c .before .keep .ensures)
 
 pub dringoleth-write-spec : {M : Type 1} → statement M
