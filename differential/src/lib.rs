@@ -1,4 +1,24 @@
-//! The proved code as Rust sees it, and a source of repeatable random numbers.
+//! The proved code and the reference on the same inputs: the cipher by the tests, the tag by the program `tag-runs`.
 
+pub mod aim;
+pub mod cases;
+pub mod changes;
+pub mod cipher;
+pub mod commands;
+pub mod compare;
+pub mod edits;
+pub mod images;
+pub mod logs;
+pub mod map;
 pub mod proved;
 pub mod random;
+pub mod report;
+pub mod runs;
+pub mod sessions;
+pub mod shrink;
+pub mod sides;
+pub mod slips;
+pub mod spans;
+pub mod table;
+pub mod tally;
+pub mod units;

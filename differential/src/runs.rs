@@ -1,0 +1,209 @@
+//! Many cases one after another: each made from the seed and its number, carried out on both sides, and counted.
+
+use crate::aim::{Aim, View};
+use crate::cases::{Case, Failure, Log};
+use crate::commands::Command;
+use crate::compare::{Lending, Pair};
+use crate::images::{self, Image};
+use crate::logs;
+use crate::map::{self, Place};
+use crate::random::Random;
+use crate::sessions::{self, Session, POWER_UP};
+use crate::sides::Side;
+use crate::spans;
+use crate::table;
+use crate::tally::Tally;
+
+/// A case that failed, up to the command that did.
+#[derive(Debug)]
+pub struct Found {
+    pub number: u64,
+    pub case: Case,
+    pub failure: Failure,
+}
+
+pub struct Runs<'a> {
+    seed: u64,
+    pub pair: Pair<'a>,
+    pub tally: Tally,
+    pub commands: u64,
+    pub log_runs: u64,
+}
+
+/// One case in the making: what it starts from, and the commands so far.
+struct Making {
+    random: Random,
+    image: Image,
+    session: Session,
+    aim: Aim,
+    commands: Vec<Command>,
+}
+
+impl Making {
+    fn new(seed: u64, number: u64) -> Making {
+        let mut random = Random::of_case(seed, number);
+        let damaged = random.percent(12);
+        let image = images::some_image(&mut random, damaged);
+        let session = start_session(&mut random, &image);
+        Making {
+            aim: Aim::new(image.map),
+            random,
+            image,
+            session,
+            commands: Vec::new(),
+        }
+    }
+
+    /// Few commands where all are refused.
+    fn length(&mut self, most: usize) -> usize {
+        self.random.below(if self.image.damage.is_some() { 12 } else { most })
+    }
+
+    fn next(&mut self, pair: &Pair) -> Command {
+        if self.image.damage.is_some() {
+            return match self.random.below(16) {
+                0 => Command::PowerUp,
+                _ => spans::some_span(&mut self.random, self.image.map),
+            };
+        }
+        let view = View {
+            tag: pair.tag(),
+            session: pair.session(),
+        };
+        self.aim.next(&mut self.random, view, self.commands.last())
+    }
+
+    fn case(self) -> Case {
+        Case {
+            image: self.image.bytes,
+            session: self.session,
+            commands: self.commands,
+            log: None,
+        }
+    }
+}
+
+fn start_session(random: &mut Random, image: &Image) -> Session {
+    if image.damage.is_some() {
+        let mut session = POWER_UP;
+        random.fill(&mut session);
+        return session;
+    }
+    let unit = map::unit(&image.bytes, random.below(image.map.segments));
+    sessions::some_session(random, unit)
+}
+
+impl<'a> Runs<'a> {
+    pub fn new(seed: u64, left: &'a dyn Side, right: &'a dyn Side) -> Self {
+        Runs::lending(seed, left, right, Lending::Margins)
+    }
+
+    pub fn lending(seed: u64, left: &'a dyn Side, right: &'a dyn Side, lending: Lending) -> Self {
+        Runs {
+            seed,
+            pair: Pair::new(left, right, lending),
+            tally: Tally::default(),
+            commands: 0,
+            log_runs: 0,
+        }
+    }
+
+    /// Cases from number 0 on, until this many commands have been carried out as calls.
+    pub fn many(&mut self, commands: u64) -> Result<(), Box<Found>> {
+        let mut number = 0;
+        while self.commands < commands {
+            self.case(number, commands - self.commands)?;
+            number += 1;
+        }
+        Ok(())
+    }
+
+    /// One case with at most this many commands: every third is said in a log too.
+    pub fn case(&mut self, number: u64, most: u64) -> Result<(), Box<Found>> {
+        let mut making = Making::new(self.seed, number);
+        self.tally.image(making.image.damage);
+        self.pair.start(&making.image.bytes, &making.session);
+        let for_log = number % 3 == 2;
+        let length = match for_log {
+            true if making.random.percent(25) => making.length(3),
+            _ => 1 + making.length(80),
+        };
+        let length = length.min(most.try_into().unwrap_or(usize::MAX));
+        for _ in 0..length {
+            if let Err(failure) = self.command(&mut making, for_log) {
+                let case = making.case();
+                return Err(Box::new(Found { number, case, failure }));
+            }
+        }
+        if for_log {
+            return self.logs(making, number);
+        }
+        Ok(())
+    }
+
+    fn command(&mut self, making: &mut Making, for_log: bool) -> Result<(), Failure> {
+        let command = making.next(&self.pair);
+        let command = if for_log { command.for_log() } else { command };
+        self.count_ill_formed(making, &command);
+        let row = table::row_of(self.pair.tag(), &command);
+        let answer = self.pair.call(&command);
+        let index = making.commands.len();
+        making.commands.push(command);
+        let answer = answer.map_err(|what| Failure { command: index, what })?;
+        self.tally.call(&making.commands[index], row, answer);
+        self.commands += 1;
+        Ok(())
+    }
+
+    fn count_ill_formed(&mut self, making: &Making, command: &Command) {
+        if making.image.damage.is_some() {
+            return;
+        }
+        if let Some(Place::Unit(k) | Place::Segment(k)) = table::place_of(making.image.map, command) {
+            // An ill-formed unit stays as it is: no edit of it is granted.
+            if let Some(way) = making.image.ill_formed[k] {
+                self.tally.ill_formed(way);
+            }
+        }
+    }
+
+    /// The commands once more as a log, with something behind them, in outputs of several lengths.
+    fn logs(&mut self, mut making: Making, number: u64) -> Result<(), Box<Found>> {
+        let last = making.next(&self.pair);
+        let tail = logs::some_tail(&mut making.random, last);
+        let mut random = Random::new(making.random.number());
+        let mut case = making.case();
+        let commands = case.log_bytes().expect("made for a log").len();
+        let room = logs::much_room(&mut random, commands + tail.len());
+        case.log = Some(Log { tail, room });
+        let enough = self.log_run(&case, logs::MUCH, number)?;
+        for _ in 0..2 {
+            let class = random.below(logs::MUCH);
+            let Some(room) = logs::some_room(&mut random, class, enough) else {
+                continue;
+            };
+            case.log.as_mut().expect("just set").room = room;
+            self.log_run(&case, class, number)?;
+        }
+        Ok(())
+    }
+
+    /// Returns the least room with which the run would have come as far.
+    fn log_run(&mut self, case: &Case, class: usize, number: u64) -> Result<usize, Box<Found>> {
+        let (stop, walk) = case.run_log(&mut self.pair).map_err(|what| found(number, case, what))?;
+        self.tally.run(class, stop, &walk.steps);
+        self.log_runs += 1;
+        Ok(walk.enough)
+    }
+}
+
+fn found(number: u64, case: &Case, what: String) -> Box<Found> {
+    Box::new(Found {
+        number,
+        case: case.clone(),
+        failure: Failure {
+            command: case.commands.len(),
+            what,
+        },
+    })
+}

@@ -1,0 +1,229 @@
+//! The answers that document 01 lets each place give, and the place that a command is at.
+
+use crate::commands::{Command, LogKind, LOG_COUNTS};
+use crate::logs::{Unreadable, ROOMS};
+use crate::map::{self, Map, Place};
+use crate::units;
+
+pub const PLACES: usize = 31;
+pub const LOG_KINDS: usize = 12;
+
+/// A place and the answers it can give; 0 is granted.
+pub type Row = (&'static str, &'static [u8]);
+
+/// A tag that is not sound gives 1 before its map is looked at, and a sound one never does.
+/// 2 can be had at each place: a count of 0 (the place is then that of the address), or too short an output.
+pub const READS: [Row; PLACES] = [
+    ("tag not sound", &[1]),
+    ("header", &[0, 2]),
+    ("hidden", &[2, 4]),
+    ("register READ", &[2, 4]),
+    ("register WRITE", &[2, 4]),
+    ("register EDIT", &[2, 4]),
+    ("register NAME", &[2, 4]),
+    ("register ID", &[2, 4]),
+    ("register COMMIT", &[2, 4]),
+    ("register PA", &[2, 4]),
+    ("PINs", &[2, 4]),
+    ("reader IDs", &[0, 2]),
+    ("unit: default, M clear", &[0, 2, 6]),
+    ("unit: default, model 0", &[0, 2, 6]),
+    ("unit: model 1", &[0, 2, 6]),
+    ("unit: model 2", &[0, 2, 6]),
+    ("unit: model 3, stage 0", &[0, 2, 6]),
+    ("unit: model 3, stage 1", &[0, 2, 6]),
+    ("unit: model 3, stage 2", &[0, 2, 6]),
+    ("unit: ill formed", &[2, 5]),
+    ("spare", &[2, 4]),
+    ("segment: default, M clear", &[0, 2, 6, 7, 8]),
+    ("segment: default, model 0", &[0, 2, 6, 7, 8]),
+    ("segment: model 1", &[0, 2, 6, 7, 8]),
+    // Well formed only with RD set, so never 6.
+    ("segment: model 2", &[0, 2, 7, 8]),
+    // Well formed only with RD clear, so 6 before 7 and 8.
+    ("segment: model 3, stage 0", &[2, 6]),
+    ("segment: model 3, stage 1", &[2, 6]),
+    ("segment: model 3, stage 2", &[0, 2, 7, 8]),
+    ("segment: ill-formed unit", &[2, 5]),
+    ("public segment", &[0, 2]),
+    ("outside one place", &[2, 3]),
+];
+
+pub const WRITES: [Row; PLACES] = [
+    ("tag not sound", &[1]),
+    ("header", &[0, 2, 4, 12]),
+    ("hidden", &[2, 4]),
+    ("register READ", &[0, 2, 9, 10, 11]),
+    ("register WRITE", &[0, 2, 9, 10, 11]),
+    ("register EDIT", &[0, 2, 9, 10, 11]),
+    // A name is not compared with anything when it is written.
+    ("register NAME", &[0, 2, 9, 10]),
+    // ID and PA take no part in the flag; 9 is a length other than 16.
+    ("register ID", &[0, 2, 9]),
+    ("register COMMIT", &[0, 2, 9, 10, 11]),
+    ("register PA", &[0, 2, 9]),
+    ("PINs", &[2, 4]),
+    ("reader IDs", &[2, 4]),
+    // No 8: an edit does not ask for the name.
+    ("unit: default, M clear", &[0, 2, 6, 7, 13]),
+    ("unit: default, model 0", &[0, 2, 6, 7, 13]),
+    ("unit: model 1", &[0, 2, 6, 7, 13]),
+    ("unit: model 2", &[0, 2, 6, 7, 13]),
+    ("unit: model 3, stage 0", &[0, 2, 6, 7, 13]),
+    ("unit: model 3, stage 1", &[0, 2, 6, 7, 13]),
+    ("unit: model 3, stage 2", &[0, 2, 6, 7, 13]),
+    ("unit: ill formed", &[2, 5]),
+    ("spare", &[2, 4]),
+    ("segment: default, M clear", &[0, 2, 6, 7, 8]),
+    ("segment: default, model 0", &[0, 2, 6, 7, 8]),
+    ("segment: model 1", &[0, 2, 6, 7, 8]),
+    // Well formed only with WR set, so never 6; the slot's rule is 12.
+    ("segment: model 2", &[0, 2, 7, 8, 12]),
+    ("segment: model 3, stage 0", &[0, 2, 7, 8]),
+    ("segment: model 3, stage 1", &[0, 2, 7, 8]),
+    // Well formed only with WR clear, so 6 before 7 and 8.
+    ("segment: model 3, stage 2", &[2, 6]),
+    ("segment: ill-formed unit", &[2, 5]),
+    ("public segment", &[0, 2]),
+    ("outside one place", &[2, 3]),
+];
+
+/// An advance has no count and no address, so never 2 and 4; it does not look at WR and nE, so never 6.
+pub const ADVANCES: [Row; PLACES] = {
+    let mut rows: [Row; PLACES] = [("", &[]); PLACES];
+    rows[0] = ("tag not sound", &[1]);
+    rows[SEGMENT_ROW] = ("segment: default, M clear", &[7, 8, 14]);
+    rows[SEGMENT_ROW + 1] = ("segment: default, model 0", &[7, 8, 14]);
+    rows[SEGMENT_ROW + 2] = ("segment: model 1", &[7, 8, 14]);
+    rows[SEGMENT_ROW + 3] = ("segment: model 2", &[7, 8, 14]);
+    rows[SEGMENT_ROW + 4] = ("segment: model 3, stage 0", &[0, 7, 8]);
+    rows[SEGMENT_ROW + 5] = ("segment: model 3, stage 1", &[0, 7, 8]);
+    rows[SEGMENT_ROW + 6] = ("segment: model 3, stage 2", &[7, 8, 14]);
+    rows[SEGMENT_ROW + 7] = ("segment: ill-formed unit", &[5]);
+    rows[PUBLIC_ROW] = ("public segment", &[3]);
+    rows[OUTSIDE_ROW] = ("no such segment", &[3]);
+    rows
+};
+
+const REGISTER_ROW: usize = 3;
+const UNIT_ROW: usize = 12;
+const SEGMENT_ROW: usize = 21;
+const PUBLIC_ROW: usize = 29;
+const OUTSIDE_ROW: usize = 30;
+
+/// A read in a log always has a good count and room, so never 2. Only 16 bytes can be right at a register, so only a
+/// write of 16 gives 10 and 11; 32 bytes leave a register, so never 9. 14 is an advance's alone.
+pub const IN_LOGS: [Row; LOG_KINDS] = [
+    ("00 power-up", &[0, 16]),
+    ("11 read 1", &[0, 1, 3, 4, 5, 6, 7, 8, 16]),
+    ("12 read 8", &[0, 1, 3, 4, 5, 6, 7, 8, 16]),
+    ("13 read 16", &[0, 1, 3, 4, 5, 6, 7, 8, 16]),
+    ("14 read 32", &[0, 1, 3, 4, 5, 6, 7, 8, 16]),
+    ("21 write 1", &[0, 1, 3, 4, 5, 6, 7, 8, 9, 12, 13, 16]),
+    ("22 write 8", &[0, 1, 3, 4, 5, 6, 7, 8, 9, 12, 13, 16]),
+    ("23 write 16", &[0, 1, 3, 4, 5, 6, 7, 8, 9, 10, 11, 12, 13, 16]),
+    ("24 write 32", &[0, 1, 3, 4, 5, 6, 7, 8, 12, 13, 16]),
+    ("31 advance", &[0, 1, 3, 5, 7, 8, 14, 16]),
+    ("unknown kind", &[15, 16]),
+    ("short body", &[15, 16]),
+];
+
+/// Every reply needs two bytes or more, so that with less a run ends only over an empty log.
+pub const STOPS: [Row; ROOMS.len()] = [
+    (ROOMS[0], &[0, 16]),
+    (ROOMS[1], &[0, 16]),
+    (ROOMS[2], &[0, 15, 16]),
+    (ROOMS[3], &[0, 15, 16]),
+    (ROOMS[4], &[16]),
+    (ROOMS[5], &[0, 15]),
+    (ROOMS[6], &[0, 15]),
+];
+
+/// The row of a read or a write, by the generator's own map.
+fn place_row(tag: &[u8], place: Option<Place>) -> usize {
+    let kind = |k| units::kind(map::unit(tag, k)) as usize;
+    match place {
+        Some(Place::Header) => 1,
+        Some(Place::Hidden) => 2,
+        Some(Place::Register(register)) => REGISTER_ROW + register as usize,
+        Some(Place::Pins) => 10,
+        Some(Place::Readers) => 11,
+        Some(Place::Unit(k)) => UNIT_ROW + kind(k),
+        Some(Place::Spare) => 20,
+        Some(Place::Segment(k)) => SEGMENT_ROW + kind(k),
+        Some(Place::Public(_)) => PUBLIC_ROW,
+        None => OUTSIDE_ROW,
+    }
+}
+
+/// The place that a command is at before it is carried out; an advance is at its segment.
+pub fn place_of(map: Map, command: &Command) -> Option<Place> {
+    match command {
+        Command::PowerUp => None,
+        Command::Read { address, count, .. } => map.place(*address, *count),
+        Command::Write { address, data } => map.place(*address, data.len()),
+        Command::Advance { segment } if *segment < map.segments => Some(Place::Segment(*segment)),
+        Command::Advance { segment } => {
+            let public = segment - map.segments;
+            (public < map.publics).then_some(Place::Public(public))
+        }
+    }
+}
+
+/// The row of a command on a tag.
+pub fn row_of(tag: &[u8], command: &Command) -> usize {
+    Map::of(tag).map_or(0, |map| place_row(tag, place_of(map, command)))
+}
+
+pub fn log_row(kind: Result<LogKind, Unreadable>) -> usize {
+    let by_count = |count| LOG_COUNTS.iter().position(|&c| c == count).unwrap_or(0);
+    match kind {
+        Ok(LogKind::PowerUp) => 0,
+        Ok(LogKind::Read(count)) => 1 + by_count(count),
+        Ok(LogKind::Write(count)) => 5 + by_count(count),
+        Ok(LogKind::Advance) => 9,
+        Err(Unreadable::UnknownKind) => 10,
+        Err(Unreadable::ShortBody) => 11,
+    }
+}
+
+#[cfg(test)]
+mod tests {
+    use super::*;
+    use crate::units::KINDS;
+
+    fn answers(rows: &[Row]) -> Vec<u8> {
+        let mut all: Vec<u8> = rows.iter().flat_map(|row| row.1).copied().collect();
+        all.sort_unstable();
+        all.dedup();
+        all
+    }
+
+    #[test]
+    fn each_refusal_is_in_the_set_where_document_01_has_it() {
+        assert_eq!(answers(&READS), [0, 1, 2, 3, 4, 5, 6, 7, 8]);
+        assert_eq!(answers(&WRITES), [0, 1, 2, 3, 4, 5, 6, 7, 8, 9, 10, 11, 12, 13]);
+        assert_eq!(answers(&ADVANCES), [0, 1, 3, 5, 7, 8, 14]);
+        let calls: Vec<Row> = [READS, WRITES, ADVANCES].concat();
+        assert_eq!(answers(&calls), Vec::from_iter(0..=14));
+    }
+
+    #[test]
+    fn a_log_gives_what_calls_give_and_15_and_16() {
+        let mut due = answers(&[READS, WRITES, ADVANCES].concat());
+        due.retain(|&answer| answer != 2);
+        due.extend([15, 16]);
+        assert_eq!(answers(&IN_LOGS), due);
+    }
+
+    #[test]
+    fn rows_stand_in_the_order_of_the_kinds() {
+        for (i, (kind, name)) in KINDS.iter().enumerate() {
+            assert_eq!(*kind as usize, i);
+            assert!(READS[SEGMENT_ROW + i].0.ends_with(name), "{name}");
+        }
+        for rows in [READS, WRITES] {
+            assert!(rows.iter().all(|row| row.1.is_sorted() && !row.1.is_empty()));
+        }
+    }
+}

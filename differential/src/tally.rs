@@ -1,0 +1,186 @@
+//! How often each answer was met at each place, and what of the set in `table` was not.
+
+use crate::commands::Command;
+use crate::images::{damage_name, DAMAGES};
+use crate::logs::{Step, ROOMS};
+use crate::table::{log_row, Row, ADVANCES, IN_LOGS, LOG_KINDS, PLACES, READS, STOPS, WRITES};
+use crate::units::WAYS;
+
+/// 0 is granted, then the refusals 1 to 14, then the stops 15 and 16.
+const ANSWERS: usize = 17;
+
+type Counts = [u64; ANSWERS];
+
+/// The heading of the part whose first column is the end of the log.
+const ENDS: &str = "log runs: end or stop";
+
+/// Power-ups stand apart: they have no place and are always granted.
+pub struct Tally {
+    reads: [Counts; PLACES],
+    writes: [Counts; PLACES],
+    advances: [Counts; PLACES],
+    logs: [Counts; LOG_KINDS],
+    rooms: [Counts; ROOMS.len()],
+    damages: [u64; DAMAGES],
+    ill_formed: [u64; WAYS.len()],
+    power_ups: u64,
+}
+
+/// A part of the table: its heading, its rows, and their counts.
+type Part<'a> = (&'static str, &'a [Row], &'a [Counts]);
+
+impl Default for Tally {
+    fn default() -> Self {
+        Tally {
+            reads: [[0; ANSWERS]; PLACES],
+            writes: [[0; ANSWERS]; PLACES],
+            advances: [[0; ANSWERS]; PLACES],
+            logs: [[0; ANSWERS]; LOG_KINDS],
+            rooms: [[0; ANSWERS]; ROOMS.len()],
+            damages: [0; DAMAGES],
+            ill_formed: [0; WAYS.len()],
+            power_ups: 0,
+        }
+    }
+}
+
+impl Tally {
+    /// Counts a command; the row is that of `table::row_of` on the tag as it was before.
+    pub fn call(&mut self, command: &Command, row: usize, answer: u8) {
+        let rows = match command {
+            Command::PowerUp => {
+                self.power_ups += 1;
+                return;
+            }
+            Command::Read { .. } => &mut self.reads,
+            Command::Write { .. } => &mut self.writes,
+            Command::Advance { .. } => &mut self.advances,
+        };
+        rows[row][usize::from(answer)] += 1;
+    }
+
+    pub fn run(&mut self, room: usize, stop: u8, steps: &[Step]) {
+        self.rooms[room][usize::from(stop)] += 1;
+        for step in steps {
+            self.logs[log_row(step.kind)][usize::from(step.answer)] += 1;
+        }
+    }
+
+    pub fn image(&mut self, damage: Option<usize>) {
+        if let Some(way) = damage {
+            self.damages[way] += 1;
+        }
+    }
+
+    pub fn ill_formed(&mut self, way: usize) {
+        self.ill_formed[way] += 1;
+    }
+
+    fn parts(&self) -> [Part<'_>; 5] {
+        [
+            ("read", &READS, &self.reads),
+            ("write", &WRITES, &self.writes),
+            ("advance", &ADVANCES, &self.advances),
+            ("log runs: commands", &IN_LOGS, &self.logs),
+            (ENDS, &STOPS, &self.rooms),
+        ]
+    }
+
+    /// Commands granted and all commands, power-ups among both.
+    pub fn grants(&self) -> (u64, u64) {
+        let rows = || [&self.reads, &self.writes, &self.advances].into_iter().flatten();
+        let granted: u64 = rows().map(|counts| counts[0]).sum();
+        let all: u64 = rows().flatten().sum();
+        (granted + self.power_ups, all + self.power_ups)
+    }
+
+    /// What was met and is not in the set.
+    pub fn outside_the_set(&self) -> Vec<String> {
+        self.cells(|count, reachable| count > 0 && !reachable)
+    }
+
+    /// What is in the set and was not met.
+    pub fn not_met(&self) -> Vec<String> {
+        let mut missing = self.cells(|count, reachable| count == 0 && reachable);
+        let damages = (0..DAMAGES).filter(|&way| self.damages[way] == 0);
+        missing.extend(damages.map(|way| format!("images: {}", damage_name(way))));
+        let ways = (0..WAYS.len()).filter(|&way| self.ill_formed[way] == 0);
+        missing.extend(ways.map(|way| format!("commands at ill-formed units: {}", WAYS[way])));
+        let (granted, all) = self.grants();
+        if 3 * granted < all {
+            missing.push("a grant for a third of the commands".into());
+        }
+        missing
+    }
+
+    fn cells(&self, wanted: impl Fn(u64, bool) -> bool) -> Vec<String> {
+        let mut found = Vec::new();
+        for (heading, rows, counts) in self.parts() {
+            for ((place, answers), counts) in rows.iter().zip(counts) {
+                let hit = (0..ANSWERS).filter(|&i| wanted(counts[i], answers.contains(&(i as u8))));
+                found.extend(hit.map(|answer| format!("{heading}, {place}: {}", column(heading, answer))));
+            }
+        }
+        found
+    }
+
+    /// The whole table. A dot is an answer outside the set.
+    pub fn text(&self) -> String {
+        let mut text = String::new();
+        for (heading, rows, counts) in self.parts() {
+            let columns = Vec::from_iter((0..ANSWERS).filter(|&i| rows.iter().any(|row| row.1.contains(&(i as u8)))));
+            line(&mut text, heading, columns.iter().map(|&i| column(heading, i)));
+            for (row, counts) in rows.iter().zip(counts).filter(|(row, _)| !row.1.is_empty()) {
+                line(&mut text, row.0, columns.iter().map(|&i| cell(row, counts, i)));
+            }
+            text.push('\n');
+        }
+        self.lists(&mut text);
+        text
+    }
+
+    fn lists(&self, text: &mut String) {
+        let damaged = (0..DAMAGES).map(|way| (damage_name(way), self.damages[way]));
+        let ill_formed = WAYS
+            .iter()
+            .zip(self.ill_formed)
+            .map(|(name, count)| (name.to_string(), count));
+        list(text, "images that are not sound", damaged);
+        list(text, "commands at units that are not well formed", ill_formed);
+        let (granted, all) = self.grants();
+        *text += &format!("power-ups {}; {granted} of {all} commands granted\n", self.power_ups);
+    }
+}
+
+fn column(heading: &str, answer: usize) -> String {
+    match answer {
+        0 if heading == ENDS => "end".into(),
+        0 => "granted".into(),
+        number => number.to_string(),
+    }
+}
+
+fn cell(row: &Row, counts: &Counts, answer: usize) -> String {
+    let count = counts[answer];
+    if count == 0 && !row.1.contains(&(answer as u8)) {
+        ".".into()
+    } else {
+        count.to_string()
+    }
+}
+
+fn line(text: &mut String, first: &str, cells: impl Iterator<Item = String>) {
+    *text += &format!("{first:<28}");
+    for cell in cells {
+        *text += &format!(" {cell:>7}");
+    }
+    text.push('\n');
+}
+
+fn list(text: &mut String, heading: &str, rows: impl Iterator<Item = (String, u64)>) {
+    *text += &format!("{heading}\n");
+    for (name, count) in rows {
+        *text += &format!("  {name:<42} {count:>7}\n");
+    }
+    text.push('\n');
+}
