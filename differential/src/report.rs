@@ -27,7 +27,7 @@ fn image(case: &Case) -> String {
         "image: length {}; zeros, except (addresses in hexadecimal)\n",
         case.image.len()
     );
-    for part in parts(&case.image) {
+    for part in parts(&case.image).into_iter().filter(|part| !part.is_empty()) {
         text += &format!("  at {:X}: {}\n", part.start, hex(&case.image[part.clone()]));
     }
     text

@@ -23,7 +23,7 @@ use Rattle.rules.specs.Answers.{numberOf}
 use Rattle.rules.specs.Refusals.{Checks, granted, _when_else_, lowest, registerChecks, responseChecks, nameChecks, commitChecks, plainChecks, writeChecks, headerWriteChecks, editChecks, segmentWriteChecks, readChecks, unitReadChecks, segmentReadChecks, advanceChecks}
 use Rattle.rules.specs.Effects.{refusalStores, apply, setFlag}
 use Rattle.rules.specs.Command.{write, inPlace, read, Command, advance, powerUp, checks, refusal, refused, after, afterBy, filled, reply, replyBy}
-use Rattle.rules.specs.Claims.{Applies, LowestGiven, RefusalNamed, RefusedChangesNothing}
+use Rattle.rules.specs.Claims.{Applies, LowestGiven, RefusalNamed, RefusedChangesNothing, highest}
 use Rattle.rules.proofs.Tests.{and-true, true-false, some-none}
 use Rattle.rules.proofs.BytesLaws.{byte-put, byte-put-out, length-put}
 use Rattle.rules.proofs.MapLaws.{sound-long}
@@ -85,7 +85,7 @@ none-left (j when true else cs) m e a = some-none e
 none-left (j when false else cs) m e (inl a) = true-false (sym (a .1))
 none-left (j when false else cs) m e (inr a) = none-left cs m e a
 
-register-ascends : (E : Cipher) (s : State) (r : Register) (bs : List ℕ) → ascends 2 14 (registerChecks E s r bs) ≡ true
+register-ascends : (E : Cipher) (s : State) (r : Register) (bs : List ℕ) → ascends 2 13 (registerChecks E s r bs) ≡ true
 unfolding registerChecks responseChecks nameChecks commitChecks plainChecks
 register-ascends E s Read bs = refl
 register-ascends E s Write bs = refl
@@ -96,7 +96,7 @@ register-ascends E s Commit bs = refl
 register-ascends E s Pa bs = refl
 
 write-ascends : (E : Cipher) (s : State) (a : ℕ) (bs : List ℕ) (q : Option Place)
-    → ascends 2 14 (inPlace q (λ p. writeChecks E s p a bs)) ≡ true
+    → ascends 2 13 (inPlace q (λ p. writeChecks E s p a bs)) ≡ true
 unfolding inPlace writeChecks headerWriteChecks editChecks segmentWriteChecks
 write-ascends E s a bs none = refl
 write-ascends E s a bs (some Header) = refl
@@ -122,13 +122,6 @@ read-ascends s a n (some (UnitOf k)) = refl
 read-ascends s a n (some Spare) = refl
 read-ascends s a n (some (Segment k)) = refl
 read-ascends s a n (some (Public k)) = refl
-
--- the highest number that the checks of a command can give
-abbrev highest : Command → ℕ
-highest (read a n room) = 8
-highest (write a bs) = 14
-highest (advance k) = 14
-highest powerUp = 14
 
 checks-ascend : (E : Cipher) (s : State) (c : Command) → ascends 1 (highest c) (checks E s c) ≡ true
 unfolding checks advanceChecks
@@ -159,28 +152,32 @@ abbrev NumberedFrom : ℕ → List Refusal → Type 0
 NumberedFrom k [] = Unit {0}
 NumberedFrom k (r ∷ rs) = (numberOf r ≡ k) × NumberedFrom (suc k) rs
 
-named-in : (rs : List Refusal) (k n : ℕ) → NumberedFrom k rs → k ≤ n → n < k + length rs → RefusalNamed n
+named-in : (rs : List Refusal) (k n : ℕ) → NumberedFrom k rs → k ≤ n → n < k + length rs
+    → (r : Refusal) × (numberOf r ≡ n)
 named-in [] k n h b c = absurd (omega arith)
 named-in (r ∷ rs) k n h b c = by (ℕ-discrete k n) (λ d. named-in rs (suc k) n (h .1) d (omega arith))
   where
-    by : Dec (k ≡ n) → (suc k ≤ n → RefusalNamed n) → RefusalNamed n
-    by (yes e) later = record { refusal-case = r; its-number = h .0 ∙ e }
+    by : Dec (k ≡ n) → (suc k ≤ n → (r : Refusal) × (numberOf r ≡ n)) → (r : Refusal) × (numberOf r ≡ n)
+    by (yes e) later = (r, h .0 ∙ e)
     by (no e) later = later (omega arith)
 
-pub refusal-named : (E : Cipher) (s : State) (c : Command) (n : ℕ) → refusal E s c ≡ some n → RefusalNamed n
+pub refusal-named : (E : Cipher) (s : State) (c : Command) (n : ℕ) → refusal E s c ≡ some n → RefusalNamed c n
 refusal-named E s c n e =
     let x = number-bounded E s c n e in
+    let y =
     named-in
     (Unsound ∷ Count ∷ Outside ∷ NeverTaken ∷ Malformed ∷ Forbidden ∷ OtherPin ∷ OtherName ∷ BadRegister ∷ FlagUsed
     ∷ WrongResponse ∷ NotNext ∷ BadEdit ∷ NoAdvance ∷ [])
     1 n (refl, (refl, (refl, (refl, (refl, (refl, (refl, (refl, (refl, (refl, (refl, (refl, (refl, (refl, tt))))))))))))))
-    (x .0) (at-most c (x .1))
+    (x .0) (below-15 c (x .1))
+    in
+    record { refusal-case = y .0; its-number = y .1; from-one = x .0; at-most = x .1 }
   where
-    at-most : (c : Command) → n ≤ highest c → n < 15
-    at-most (read a m room) h = omega arith
-    at-most (write a bs) h = omega arith
-    at-most (advance k) h = omega arith
-    at-most powerUp h = omega arith
+    below-15 : (c : Command) → n ≤ highest c → n < 15
+    below-15 (read a m room) h = omega arith
+    below-15 (write a bs) h = omega arith
+    below-15 (advance k) h = omega arith
+    below-15 powerUp h = omega arith
 
 -- ---- the state after a refusal
 

@@ -67,10 +67,19 @@ pub record LowestGiven (E : Cipher) (s : State) (c : Command) : Type 0 where
       → Applies n (checks E s c) × ((m : ℕ) → Applies m (checks E s c) → n ≤ m)
   pub grant-owed : refusal E s c ≡ none → (m : ℕ) → Applies m (checks E s c) → ⊥
 
--- every number that is given has its case of `Refusal`
-pub record RefusalNamed (n : ℕ) : Type 0 where
+-- the highest number of the table that speaks of a command
+abbrev pub highest : Command → ℕ
+highest (read a n room) = 8
+highest (write a bs) = 13
+highest (advance k) = 14
+highest powerUp = 0
+
+-- every number that a command is given speaks of it, and has its case of `Refusal`
+pub record RefusalNamed (c : Command) (n : ℕ) : Type 0 where
   pub refusal-case : Refusal
   pub its-number : numberOf refusal-case ≡ n
+  pub from-one : 1 ≤ n
+  pub at-most : n ≤ highest c
 
 -- "a public function's contract determines the returned value": an answer and a stop are told by their numbers
 pub record AnswersTold : Type 0 where

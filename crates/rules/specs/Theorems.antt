@@ -37,7 +37,7 @@ pub record Theorems : Type 0 where
   pub session-fits : (E : Cipher) (s : State) → SessionFits E s
   -- refusals
   pub lowest-given : (E : Cipher) (s : State) (c : Command) → LowestGiven E s c
-  pub refusal-named : (E : Cipher) (s : State) (c : Command) (n : ℕ) → refusal E s c ≡ some n → RefusalNamed n
+  pub refusal-named : (E : Cipher) (s : State) (c : Command) (n : ℕ) → refusal E s c ≡ some n → RefusalNamed c n
   pub answers-told : AnswersTold
   pub refused-changes-nothing : (E : Cipher) (s : State) (c : Command) (n : ℕ) → refusal E s c ≡ some n
       → RefusedChangesNothing E s c n
