@@ -12,7 +12,6 @@ pub const EDIT: usize = 4;
 pub const NAME: usize = 6;
 pub const ID: usize = 22;
 pub const PA: usize = 38;
-pub const GUARD: usize = PA + 4;
 
 /// The parts, for reports and for shrinking.
 pub const PARTS: [(&str, usize, usize); 6] = [

@@ -17,16 +17,18 @@ use Rattle.rules.specs.declared.Register.{Register}
 use Rattle.rules.specs.declared.Register.the-variants.{Write, Read, Edit, Name, Id, Commit, Pa}
 use Rattle.rules.specs.declared.Place.{Place}
 use Rattle.rules.specs.declared.Place.the-variants.{Header, Hidden, RegisterOf, Pins, Readers, UnitOf, Spare, Segment, Public}
+use Rattle.rules.specs.declared.Stop.{Stop}
+use Rattle.rules.specs.declared.Stop.the-variants.{End, BadCommand, OutputFull}
 use Rattle.rules.specs.Bytes.{byte, part, number, numberFrom, bytesOf}
 use Rattle.rules.specs.State.{Cipher, State, state, pinIndex, poweredUp, withRead, withWrite, withEdit, withName, withId, withPa}
-use Rattle.rules.specs.Answers.{refusalOf, codeOf}
+use Rattle.rules.specs.Answers.{refusalOf, stopNumber, codeOf}
 use Rattle.rules.specs.Refusals.{Checks, _when_else_, lowest, registerChecks, responseChecks, nameChecks, plainChecks, writeChecks}
 use Rattle.rules.specs.Effects.{registerSession, writeSession}
 use Rattle.rules.specs.Command.{Command, read, write, advance, powerUp, refused, refusal, reply, after, afterBy, newSession, sessionIn}
 use Rattle.rules.specs.Log.{Parsed, end, unreadable, _taking_then_, encoded, roomFor, stopped, onward, carriedOut, runLog, Ran, parsed}
 use Rattle.rules.specs.Runs.{runOver, resultOf}
 use Rattle.rules.specs.Calls.{CarriedOut, outcome}
-use Rattle.rules.specs.CCalls.{sessionOf, sessionBytes, Fits, NothingLost, SessionFits, CalledIsCall}
+use Rattle.rules.specs.CCalls.{sessionOf, sessionBytes, Fits, NothingLost, SessionFits, CalledIsCall, RunCalledIsRun}
 use Rattle.rules.proofs.Tests.{passes}
 use Rattle.rules.proofs.BytesLaws.{length-bytesOf, number-bytesOf, part-front, length-part, length-xor}
 use Rattle.rules.proofs.Grants.{granted-write}
@@ -252,3 +254,41 @@ called-is-call E s c n t b h = by (refusal E s c) refl
           x .its-number ∙ sym (h .answered ∙ ap codeOf e),
           record { answered = ap some (x .its-number) ∙ sym e; left = h .left },
         )
+
+-- a run ends, or stops with 15 or 16
+stop-named : (E : Cipher) (s : State) (p : Parsed) (room : ℕ) → (q : Stop) × (carriedOut E s p room .stop ≡ stopNumber q)
+unfolding carriedOut stopped onward
+stop-named E s end room = (End, refl)
+stop-named E s unreadable room = by (leb 2 room)
+  where
+    by : (b : Bool)
+        → (q : Stop) × (cond b (stopped (some 15) (encoded (refused 15)) s) (stopped (some 16) [] s) .stop ≡ stopNumber q)
+    by true = (BadCommand, refl)
+    by false = (OutputFull, refl)
+stop-named E s (c taking n then p) room =
+    by (leb (roomFor c) room) (stop-named E (after E s c) p (room - length (encoded (reply E s c))))
+  where
+    rest : Ran
+    rest = carriedOut E (after E s c) p (room - length (encoded (reply E s c)))
+
+    by : (b : Bool) → (q : Stop) × (rest .stop ≡ stopNumber q)
+        → (q : Stop) × (cond b (onward n (encoded (reply E s c)) rest) (stopped (some 16) [] s) .stop ≡ stopNumber q)
+    by true x = x
+    by false x = (OutputFull, refl)
+
+pub run-called-is-run : (E : Cipher) → RunCalledIsRun E
+run-called-is-run E s log out n i j t b o h =
+    let x = runOver E s log out in
+    let named : (q : Stop) × (x .stop ≡ stopNumber q) =
+    unfold runOver resultOf runLog in stop-named E s (parsed 0 log) (length out) in (
+      named .0,
+      sym (h .stopped ∙ ap codeOf (named .1)),
+      rw (
+        h .read,
+        h .written,
+        ← named .1,
+        ap (λ y. y .session) (h .left),
+        ap (λ y. y .tag) (h .left),
+        h .output,
+      ),
+    )

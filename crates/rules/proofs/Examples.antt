@@ -13,7 +13,7 @@ use Rattle.rules.specs.Command.{refusal, inPlace, checks, stores, stores
 use Rattle.rules.specs.Run.{final, replies}
 use Rattle.rules.specs.Log.{kinds, kindIn, bodyLength, commandOf, wholeOf, first, parsed, parsedBy, commandsOf, readCode, encoded, encodedAll, roomFor, stopped, onward, carriedOut, runLog}
 use Rattle.rules.specs.Examples.{Hold, starred, stages, errors, NotEmpty, RepeatsChange, owed, tagWith, counterTag, eight, begin, naming, got, xorWrite, nameWrite, xorState, nameState}
-use Rattle.rules.specs.Readings.{readings, zeros16, counterOrder, modelThreeEdits, advanceOrder, coveredName, indexRules, registerRules, pinRules, whichKey, countFirst, shortTag, defaultModel, logRoom}
+use Rattle.rules.specs.Readings.{readings, zeros16, counterOrder, modelThreeEdits, modelOneEdits, advanceOrder, coveredName, indexRules, registerRules, pinRules, whichKey, countFirst, shortTag, defaultModel, logRoom}
 
 -- all of them under one list of what is opened
 computed : Hold starred × Hold stages × Hold errors × Hold readings × NotEmpty × RepeatsChange
@@ -27,8 +27,8 @@ unfolding part put numberFrom same zeros xor all segments publics counter flag m
     refusalStores inPlace checks refusal storesIn sessionIn stores newSession grant replyBy reply afterBy after
     final replies kinds kindIn bodyLength commandOf wholeOf first parsedBy parsed commandsOf readCode encoded
     encodedAll roomFor stopped onward carriedOut runLog tagWith counterTag eight begin naming got owed starred stages
-    errors xorWrite nameWrite xorState nameState zeros16 counterOrder modelThreeEdits advanceOrder coveredName
-    indexRules registerRules pinRules whichKey countFirst shortTag defaultModel logRoom readings
+    errors xorWrite nameWrite xorState nameState zeros16 counterOrder modelThreeEdits modelOneEdits advanceOrder
+    coveredName indexRules registerRules pinRules whichKey countFirst shortTag defaultModel logRoom readings
 computed = (
   refl,
   refl,

@@ -11,7 +11,7 @@ use Rattle.rules.proofs.Demand3.{demand-3}
 use Rattle.rules.proofs.Calls.{calls-follow, calls-demand-3, refused-leaves, refused-reads}
 use Rattle.rules.proofs.RunLaws.{runs-continue}
 use Rattle.rules.proofs.Runs.{runs-leave, runs-demand-3}
-use Rattle.rules.proofs.CCalls.{called-is-call, nothing-lost, session-fits}
+use Rattle.rules.proofs.CCalls.{called-is-call, run-called-is-run, nothing-lost, session-fits}
 use Rattle.rules.proofs.LogLaws.{log-is-its-commands}
 use Rattle.rules.proofs.LogDemand3.{log-demand-3}
 use Rattle.rules.proofs.FourCommands.{host-reads}
@@ -31,6 +31,7 @@ theorems =
       runs-leave = runs-leave;
       runs-continue = runs-continue;
       called-is-call = called-is-call;
+      run-called-is-run = run-called-is-run;
       nothing-lost = nothing-lost;
       session-fits = session-fits;
       lowest-given = lowest-given;

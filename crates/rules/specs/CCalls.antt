@@ -6,12 +6,13 @@ use mathlib.Core.List.{List, [], _∷_, flatten}
 use lib.ListN.{length}
 use Rattle.rules.specs.declared.Answer.{Answer}
 use Rattle.rules.specs.declared.Session.{Session}
+use Rattle.rules.specs.declared.Stop.{Stop}
 use Rattle.rules.specs.Bytes.{byte, part, number, bytesOf}
 use Rattle.rules.specs.State.{Cipher, State, state}
-use Rattle.rules.specs.Answers.{refusalOf, codeOf}
+use Rattle.rules.specs.Answers.{refusalOf, stopNumber, codeOf}
 use Rattle.rules.specs.Command.{Command, refusal, after}
 use Rattle.rules.specs.Calls.{CarriedOut, outcome}
-use Rattle.rules.specs.Runs.{Result, runOver}
+use Rattle.rules.specs.Runs.{Result, returned, result, runOver}
 
 -- ---- the session's bytes: read index (2), write index (2), edit index (2), name (16), ID (16), PA (16)
 
@@ -73,9 +74,14 @@ pub record SessionFits (E : Cipher) (s : State) : Type 0 where
   pub after-command : Fits (s .session) → (c : Command) → Fits (after E s c .session)
   pub after-run : Fits (s .session) → (log out : List ℕ) → Fits (runOver E s log out .session)
 
--- ---- a call from C is a call, so that all that is said of calls (Calls.antt) is said of it
+-- ---- a call from C is a call, and a run a run, so that all that is said of them (Calls.antt, Runs.antt) is said of C's
 
 abbrev pub CalledIsCall : Cipher → Type 0
 CalledIsCall E =
     (s : State) (c : Command) (n : ℕ) (t b : List ℕ) → Called E s c n t b
     → (a : Answer) × (codeOf (refusalOf a) ≡ n) × CarriedOut E s c t (outcome a (sessionOf b))
+
+abbrev pub RunCalledIsRun : Cipher → Type 0
+RunCalledIsRun E =
+    (s : State) (log out : List ℕ) (n i j : ℕ) (t b o : List ℕ) → RunCalled E s log out n i j t b o
+    → (q : Stop) × (codeOf (stopNumber q) ≡ n) × (result (returned i j q (sessionOf b)) t o ≡ runOver E s log out)

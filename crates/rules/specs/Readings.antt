@@ -40,6 +40,15 @@ modelThreeEdits =
     (done ∷ gives (0xFF ∷ []) ∷ [])
     ∷ []
 
+-- an edit may give a model 1 segment its WR back, unless the unit is locked: only edits of model 3 are limited
+unfoldable pub modelOneEdits : List Example
+modelOneEdits =
+    sends (begin (tagWith 0x21 0x01))
+    (write 16384 (1 ∷ []) ∷ write 16384 (2 ∷ []) ∷ write 12288 (0x21 ∷ []) ∷ write 16384 (2 ∷ []) ∷ [])
+    (done ∷ refused 6 ∷ done ∷ done ∷ [])
+    ∷ sends (begin (tagWith 0x25 0x01)) (write 16384 (1 ∷ []) ∷ write 12288 (0x25 ∷ []) ∷ []) (done ∷ refused 6 ∷ [])
+    ∷ []
+
 -- an advance gives 7 and 8 before 14, on every model, and never 6; a public segment's number is 3
 unfoldable pub advanceOrder : List Example
 advanceOrder =
@@ -168,5 +177,5 @@ logRoom =
 
 unfoldable pub readings : List Example
 readings =
-    counterOrder ++ modelThreeEdits ++ advanceOrder ++ coveredName ++ indexRules ++ registerRules ++ pinRules
-    ++ whichKey ++ countFirst ++ shortTag ++ defaultModel ++ logRoom
+    counterOrder ++ modelThreeEdits ++ modelOneEdits ++ advanceOrder ++ coveredName ++ indexRules ++ registerRules
+    ++ pinRules ++ whichKey ++ countFirst ++ shortTag ++ defaultModel ++ logRoom

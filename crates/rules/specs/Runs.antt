@@ -10,6 +10,7 @@ use lib.ListN.{length, drop}
 use lib.Dec.{eqb}
 use Rattle.rules.specs.declared.Run.{Run}
 use Rattle.rules.specs.declared.Session.{Session}
+use Rattle.rules.specs.declared.Stop.{Stop}
 use Rattle.rules.specs.declared.Stop.the-variants.{End}
 use Rattle.rules.specs.Bytes.{byte, part, put}
 use Rattle.rules.specs.Answers.{stopNumber}
@@ -30,6 +31,9 @@ pub record Result : Type 0 where
   pub session : Session
   pub tag : List ℕ
   pub output : List ℕ
+
+abbrev pub returned : (read written : ℕ) → Stop → Session → Run
+returned i j q v = record { read = i; written = j; stop = q; session = v }
 
 -- of a run that returned r and left the tag t and the output o
 abbrev pub result : Run → (tag output : List ℕ) → Result

@@ -12,7 +12,7 @@ use Rattle.rules.specs.Command.{Command, refusal}
 use Rattle.rules.specs.Demand3.{Demand3, LogDemand3}
 use Rattle.rules.specs.Calls.{CallsFollow, CallsDemand3, RefusedLeaves, RefusedReads}
 use Rattle.rules.specs.Runs.{RunsDemand3, RunsLeave, RunsContinue}
-use Rattle.rules.specs.CCalls.{CalledIsCall, NothingLost, SessionFits}
+use Rattle.rules.specs.CCalls.{CalledIsCall, RunCalledIsRun, NothingLost, SessionFits}
 use Rattle.rules.specs.Claims.{LowestGiven, RefusalNamed, AnswersTold, RefusedChangesNothing, TheMap, NoSpare, Sizes, SoundStays, LockedUnit, MovesExact, PowerUpClears, OneAnswerEach, LogIsItsCommands}
 use Rattle.rules.specs.FourCommands.{HostReads}
 use Rattle.rules.specs.Examples.{starred, Hold, stages, errors, NotEmpty, RepeatsChange}
@@ -33,6 +33,7 @@ pub record Theorems : Type 0 where
   pub runs-continue : (E : Cipher) (s : State) → RunsContinue E s
   -- the same calls from C, with the session as 54 bytes
   pub called-is-call : (E : Cipher) → CalledIsCall E
+  pub run-called-is-run : (E : Cipher) → RunCalledIsRun E
   pub nothing-lost : NothingLost
   pub session-fits : (E : Cipher) (s : State) → SessionFits E s
   -- refusals

@@ -22,7 +22,7 @@ use Rattle.rules.specs.Answers.{stopNumber}
 use Rattle.rules.specs.State.{State, state}
 use Rattle.rules.specs.Command.{Command, read, write, advance, powerUp, refused, reply, after}
 use Rattle.rules.specs.Log.{Ran, first, encoded, roomFor, stopped, onward, runLog}
-use Rattle.rules.specs.Runs.{Result, result, resultOf, runOver}
+use Rattle.rules.specs.Runs.{returned, Result, result, resultOf, runOver}
 use Rattle.rules.proofs.BytesLaws.{length-put, put-append, put-none}
 use Rattle.rules.proofs.Lawful.{sound-stays}
 use Rattle.rules.proofs.Moves.{power-up-clears}
@@ -35,7 +35,7 @@ use Rattle.command_log.specs.declared.Next.{Next}
 use Rattle.command_log.specs.declared.Next.the-variants as next
 use Rattle.command_log.specs.Next.{ComesNext, commandAt, lengthOf, roomOf}
 use Rattle.tag.specs.declared.Replied.{Replied}
-use Rattle.tag.specs.Replies.{Replies, replyFor, afterFor, returned}
+use Rattle.tag.specs.Replies.{Replies, replyFor, afterFor}
 use Rattle.tag.proofs.Laws.{put-part-back}
 
 -- ---- soundness stays as it was tested

@@ -4,9 +4,6 @@ use mathlib.Core.Path.{_≡_}
 use mathlib.Core.List.{List}
 use mathlib.Core.Option.{Option, none, some}
 use lib.ListN.{length}
-use Rattle.rules.specs.declared.Session.{Session}
-use Rattle.rules.specs.declared.Stop.{Stop}
-use Rattle.rules.specs.declared.Run.{Run}
 use Rattle.rules.specs.Bytes.{put}
 use Rattle.rules.specs.State.{Cipher, State, state}
 use Rattle.rules.specs.Command.{Command, Reply, refused, reply, after}
@@ -32,6 +29,3 @@ pub record Written (r : Reply) (out o : List ℕ) (n : ℕ) : Type 0 where
 pub record Replies (E : Cipher) (s : State) (q : Option (Command × ℕ)) (out t o : List ℕ) (x : Replied) : Type 0 where
   pub left : state t (x .session) ≡ afterFor E s q
   pub written : Written (replyFor E s q) out o (x .written)
-
-abbrev pub returned : (read written : ℕ) → Stop → Session → Run
-returned i j q v = record { read = i; written = j; stop = q; session = v }
