@@ -76,7 +76,7 @@ joined a n t x y e f = rw (e, f) (cut a n t)
 
 -- ---- 54 bytes
 
-pub bytes-back : (b : List ℕ) → length b ≡ 54 → ((i : ℕ) → byte i b < 256) → sessionBytes (sessionOf b) ≡ b
+bytes-back : (b : List ℕ) → length b ≡ 54 → ((i : ℕ) → byte i b < 256) → sessionBytes (sessionOf b) ≡ b
 unfolding sessionBytes sessionOf flatten
 bytes-back b e h =
     joined 0 2 b _ _ (index-back 0 b (omega arith) h)
@@ -87,7 +87,7 @@ bytes-back b e h =
     (joined 38 16 b _ _ refl
     (sym (drop-of-length-le b {i = 54} (omega arith))))))))
 
-pub session-back : (v : Session) → Fits v → sessionOf (sessionBytes v) ≡ v
+session-back : (v : Session) → Fits v → sessionOf (sessionBytes v) ≡ v
 unfolding sessionBytes sessionOf flatten
 session-back v h =
     same (ap number (front 2 r _ r2) ∙ number-bytesOf 2 (v .read) (h .read-index))
@@ -142,7 +142,7 @@ index-fits a t h b =
     let y = b (a + 1) in
     rw (two a t h) (omega arith)
 
-pub bytes-fit : (b : List ℕ) → length b ≡ 54 → ((i : ℕ) → byte i b < 256) → Fits (sessionOf b)
+bytes-fit : (b : List ℕ) → length b ≡ 54 → ((i : ℕ) → byte i b < 256) → Fits (sessionOf b)
 unfolding sessionOf
 bytes-fit b e h =
     fit _ (index-fits 0 b (omega arith) h) (index-fits 2 b (omega arith) h) (index-fits 4 b (omega arith) h)
@@ -202,7 +202,7 @@ granted-fits E s (write a bs) e h =
 granted-fits E s (advance k) e h = h
 granted-fits E s powerUp e h = fit _ (omega arith) (omega arith) (omega arith) refl refl refl
 
-pub command-fits : (E : Cipher) (s : State) → Fits (s .session) → (c : Command) → Fits (after E s c .session)
+command-fits : (E : Cipher) (s : State) → Fits (s .session) → (c : Command) → Fits (after E s c .session)
 unfolding after afterBy
 command-fits E s h c = by (refusal E s c) refl
   where
