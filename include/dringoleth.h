@@ -51,7 +51,8 @@ enum {
     DRINGOLETH_OUTSIDE = 3,         /* not inside one place of the map; a segment number too high */
     DRINGOLETH_NEVER_TAKEN = 4,     /* the place never takes such a command */
     DRINGOLETH_MALFORMED = 5,       /* the segment's unit is not well formed */
-    DRINGOLETH_FORBIDDEN = 6,       /* RD or WR is clear, the unit is locked, or the name is covered */
+    DRINGOLETH_FORBIDDEN = 6,       /* RD or WR is clear, the unit is locked, the name is covered, or a model 4 read
+                                       touches a slot that it may not */
     DRINGOLETH_OTHER_PIN = 7,       /* the validated PIN index is not the unit's */
     DRINGOLETH_OTHER_NAME = 8,      /* the session's name is not the unit's */
     DRINGOLETH_BAD_REGISTER = 9,    /* a register write that is not 16 bytes, or an index in PA that is too high */
@@ -59,34 +60,61 @@ enum {
     DRINGOLETH_WRONG_RESPONSE = 11, /* the response or the guard is wrong */
     DRINGOLETH_NOT_NEXT = 12,       /* not one aligned slot, or not the next value of the slot or counter */
     DRINGOLETH_BAD_EDIT = 13,       /* the result of the edit is not allowed */
-    DRINGOLETH_NO_ADVANCE = 14,     /* not model 3, or at its last stage */
+    DRINGOLETH_OTHER_MODEL = 14,    /* another model, or not at the stage that the command is for: for an advance not
+                                       model 3 or at its last stage, for an insertion not model 4 at stage 0 */
     DRINGOLETH_UNREADABLE = 15,     /* a log's command of unknown kind, or with too short a body */
-    DRINGOLETH_NO_ROOM = 16         /* no room for the reply to a log's next command */
+    DRINGOLETH_NO_ROOM = 16,        /* no room for the reply to a log's next command */
+    DRINGOLETH_BAD_INSERTION = 19   /* the id is zeros or listed, the segment is listed, or the list of hosts is full or
+                                       damaged; 17 is the cipher's, and 18 is not given */
 };
 
 /* Power-up: the session becomes all zeros. */
 void dringoleth_power_up(uint8_t session[DRINGOLETH_SESSION_BYTES]);
 
 /* Reads the count bytes at the address into the first count bytes of the output; the rest of it stays. A refused read
- * leaves the whole output. Returns 0 to 8. */
+ * leaves the whole output. In a segment of model 4 at stage 1 a read must lie in slots of listed hosts other than the
+ * segment's own, and the segment must be listed (6). Returns 0, 1, 2, 3, 4, 5, 6, 7 or 8. */
 uint8_t dringoleth_read(const uint8_t *tag, size_t tag_len, const uint8_t session[DRINGOLETH_SESSION_BYTES],
                         size_t address, size_t count, uint8_t *output, size_t output_len);
 
 /* Writes the data at the address: into a segment, a unit (an edit), the roll-back counter or a register. A register
- * write changes the session. Returns 0 to 13. */
+ * write changes the session. The unit of a listed host's segment takes no edit (13).
+ * Returns 0, 1, 2, 3, 4, 5, 6, 7, 8, 9, 10, 11, 12 or 13. */
 uint8_t dringoleth_write(uint8_t *tag, size_t tag_len, uint8_t session[DRINGOLETH_SESSION_BYTES], size_t address,
                          const uint8_t *data, size_t data_len);
 
-/* Takes a segment of model 3 to its next stage. Returns 0 to 14. */
+/* Takes a segment of model 3 to its next stage. Returns 0, 1, 3, 5, 7, 8 or 14. */
 uint8_t dringoleth_advance(uint8_t *tag, size_t tag_len, const uint8_t session[DRINGOLETH_SESSION_BYTES],
                            size_t segment);
+
+/*
+ * Inserts a host, so that it shares a key with each host before it. The host has written its stream into a segment of
+ * model 4 at stage 0: 85 slots of 48 bytes, each an id (zeros), a key and a mask of 16. The hosts are listed in the
+ * reader ID segment, from 8192 on, in rows of 18 bytes: id (16) and segment number plus one (2). The first id of zeros
+ * ends the list.
+ *
+ * With x hosts listed, for each host i of them: the new id is XORed into slot x + 1 of host i, id i into slot i of the
+ * new host; the XOR of both masks into both keys; and both masks become zeros. Then the new host gets row x + 1, and
+ * its segment is at stage 1: it can be read, and no longer written. A host that reads its slot for another finds the
+ * other's id, and the XOR of the key there with the key that it wrote is the same for both: the key that they share.
+ *
+ * It is refused as a write is for an ill-formed unit (5), the write PIN (7) and the name (8), and then
+ *   14  if the segment is not model 4 at stage 0;
+ *   19  if the id is zeros or listed, if the segment is listed, if the list has its 85 rows, or if the list is damaged:
+ *       two rows with the same id or the same segment field, or a row whose segment is not there or is not a
+ *       well-formed model 4 at stage 1.
+ * nE does not stop it. The session stays, and the ID in it plays no part. Returns 0, 1, 3, 5, 7, 8, 14 or 19.
+ */
+uint8_t dringoleth_insert(uint8_t *tag, size_t tag_len, const uint8_t session[DRINGOLETH_SESSION_BYTES],
+                          size_t segment, const uint8_t id[16]);
 
 /*
  * Runs the commands of a log, one after another, and puts their replies into the output.
  *
  * A command is a byte of kind and a body: 00 power-up; 11, 12, 13, 14 read 1, 8, 16, 32 bytes (address 4); 21, 22, 23,
- * 24 write as many (address 4, data); 31 advance (segment 2). A reply is 41, 42, 43, 44 and the bytes read; 50 for done;
- * 51 and the refusal number. Kinds and codes are hexadecimal; numbers are most significant byte first.
+ * 24 write as many (address 4, data); 31 advance (segment 2); 32 insert (segment 2, id 16). A reply is 41, 42, 43, 44
+ * and the bytes read; 50 for done; 51 and the refusal number. Kinds and codes are hexadecimal; numbers are most
+ * significant byte first.
  *
  * Returns what stopped the run: 0 at the end of the log, 15 at a command that it cannot read (the reply 51 0F is
  * written), 16 where the next reply may not find room: 1 + count bytes for a read, 2 for anything else (nothing is

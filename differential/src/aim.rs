@@ -7,6 +7,7 @@ use crate::map::{self, Map, Place, Register, COUNTER, FLAG, PINS, SEGMENT, SEGME
 use crate::random::Random;
 use crate::sessions::{self, Session};
 use crate::slips;
+use crate::slots;
 use crate::spans;
 use crate::units::{self, Kind, Unit, PN, RDPIN, WRPIN};
 
@@ -17,6 +18,7 @@ enum Goal {
     Write(usize),
     Edit(usize),
     Advance(usize),
+    Insert(usize),
     Commit { pa: Block, data: Block },
 }
 
@@ -119,11 +121,12 @@ fn open_place(random: &mut Random, map: Map) -> Command {
 
 fn some_goal(random: &mut Random, view: View, map: Map) -> Goal {
     let segment = random.below(map.segments);
-    match random.below(20) {
+    match random.below(24) {
         0..6 => Goal::Read(segment),
-        6..13 => Goal::Write(segment),
-        13..16 => Goal::Edit(segment),
+        6..12 => Goal::Write(segment),
+        12..16 => Goal::Edit(segment),
         16..18 => Goal::Advance(segment),
+        18..22 => Goal::Insert(slots::some_stream(random, view, map)),
         _ => some_commit(random, view),
     }
 }
@@ -149,7 +152,7 @@ fn some_commit(random: &mut Random, view: View) -> Goal {
 fn prepare(random: &mut Random, view: View, goal: &Goal) -> Option<Command> {
     let (k, register, at, pin_bit, name) = match *goal {
         Goal::Read(k) => (k, Register::Read, units::READ_INDEX, RDPIN, true),
-        Goal::Write(k) | Goal::Advance(k) => (k, Register::Write, units::WRITE_INDEX, WRPIN, true),
+        Goal::Write(k) | Goal::Advance(k) | Goal::Insert(k) => (k, Register::Write, units::WRITE_INDEX, WRPIN, true),
         Goal::Edit(k) => (k, Register::Edit, units::EDIT_INDEX, 0, false),
         Goal::Commit { pa, .. } => return prepare_commit(view, &pa),
     };
@@ -222,19 +225,25 @@ fn count_up(view: View) -> Command {
 
 fn reach(random: &mut Random, view: View, goal: Goal) -> Command {
     match goal {
-        Goal::Read(k) => {
-            let (address, count) = spans::part(random, segment(k));
-            spans::read(random, address, count)
-        }
+        Goal::Read(k) => read_segment(random, view, k),
         Goal::Write(k) => write_segment(random, view, k),
         Goal::Edit(k) => edits::some_edit(random, k, map::unit(view.tag, k)),
         Goal::Advance(segment) => Command::Advance { segment },
+        Goal::Insert(k) => slots::some_insertion(random, view, k),
         Goal::Commit { data, .. } => Command::write_register(Register::Commit, &data),
     }
 }
 
 fn segment(k: usize) -> std::ops::Range<usize> {
     SEGMENTS + SEGMENT * k..SEGMENTS + SEGMENT * (k + 1)
+}
+
+fn read_segment(random: &mut Random, view: View, k: usize) -> Command {
+    if units::kind(map::unit(view.tag, k)) == Kind::Shared && random.percent(90) {
+        return slots::some_read(random, view, k);
+    }
+    let (address, count) = spans::part(random, segment(k));
+    spans::read(random, address, count)
 }
 
 fn write_segment(random: &mut Random, view: View, k: usize) -> Command {

@@ -2,6 +2,7 @@
 
 use crate::cases::{Case, Log};
 use crate::commands::Command;
+use crate::hosts;
 use crate::map::{Map, Place, SEGMENT, SEGMENTS, UNIT, UNITS};
 use crate::table::place_of;
 use std::ops::Range;
@@ -18,10 +19,11 @@ pub fn change_log(case: &mut Case, change: impl FnOnce(&mut Log)) {
     }
 }
 
-/// The data of command `i`; of one without data, nothing.
+/// The data or the id of command `i`; of one without, nothing.
 pub fn data(case: &mut Case, i: usize) -> &mut [u8] {
     match &mut case.commands[i] {
         Command::Write { data, .. } => data,
+        Command::Insert { id, .. } => id,
         _ => &mut [],
     }
 }
@@ -49,13 +51,24 @@ pub fn segment_of(map: Map, command: &Command) -> Option<usize> {
     }
 }
 
-/// Lets two access-controlled segments change places, with their units and the commands at them.
+/// Lets the rows of the list that name one of two segments name the other.
+fn exchange_in_list(image: &mut [u8], a: usize, b: usize) {
+    for (i, mut row) in hosts::list(image).into_iter().enumerate() {
+        if let Some(k) = [a, b].into_iter().find(|&k| row.names(k)) {
+            row.field = (a + b - k + 1) as u16;
+            hosts::put_row(image, i, row);
+        }
+    }
+}
+
+/// Lets two access-controlled segments change places, with their units, their rows and the commands at them.
 pub fn exchange(case: &mut Case, map: Map, a: usize, b: usize) {
     for (start, size) in [(UNITS, UNIT), (SEGMENTS, SEGMENT)] {
         for i in 0..size {
             case.image.swap(start + size * a + i, start + size * b + i);
         }
     }
+    exchange_in_list(&mut case.image, a, b);
     for command in &mut case.commands {
         let Some(k) = segment_of(map, command).filter(|k| [a, b].contains(k)) else {
             continue;
@@ -66,7 +79,7 @@ pub fn exchange(case: &mut Case, map: Map, a: usize, b: usize) {
             Command::Read { address, .. } | Command::Write { address, .. } => {
                 *address = *address + to * place(*address) - k * place(*address);
             }
-            Command::Advance { segment } => *segment = to,
+            Command::Advance { segment } | Command::Insert { segment, .. } => *segment = to,
             Command::PowerUp => {}
         }
     }
@@ -98,7 +111,7 @@ pub fn fit(case: &mut Case, old: Map, new: Map) {
     for command in &mut case.commands {
         match command {
             Command::Read { address, .. } | Command::Write { address, .. } => *address = moved(*address, old, new),
-            Command::Advance { segment } if *segment >= old.segments => {
+            Command::Advance { segment } | Command::Insert { segment, .. } if *segment >= old.segments => {
                 *segment = *segment - old.segments + new.segments;
             }
             _ => {}

@@ -1,5 +1,6 @@
 //! A command, how it is said in a log, and how it is told in words.
 
+use crate::cipher::Block;
 use crate::map::Register;
 
 /// `room` is the length of the output that a read is given.
@@ -9,6 +10,7 @@ pub enum Command {
     Read { address: usize, count: usize, room: usize },
     Write { address: usize, data: Vec<u8> },
     Advance { segment: usize },
+    Insert { segment: usize, id: Block },
 }
 
 /// How many bytes the kinds 11 to 14 read and the kinds 21 to 24 write.
@@ -21,6 +23,7 @@ pub enum LogKind {
     Read(usize),
     Write(usize),
     Advance,
+    Insert,
 }
 
 pub fn log_kind(byte: u8) -> Option<LogKind> {
@@ -29,6 +32,7 @@ pub fn log_kind(byte: u8) -> Option<LogKind> {
         0x11..=0x14 => Some(LogKind::Read(LOG_COUNTS[usize::from(byte - 0x11)])),
         0x21..=0x24 => Some(LogKind::Write(LOG_COUNTS[usize::from(byte - 0x21)])),
         0x31 => Some(LogKind::Advance),
+        0x32 => Some(LogKind::Insert),
         _ => None,
     }
 }
@@ -41,6 +45,7 @@ impl LogKind {
             LogKind::Read(_) => 5,
             LogKind::Write(count) => 5 + count,
             LogKind::Advance => 3,
+            LogKind::Insert => 19,
         }
     }
 
@@ -98,6 +103,10 @@ impl Command {
             Command::Advance { segment } => Command::Advance {
                 segment: segment & 0xFFFF,
             },
+            Command::Insert { segment, id } => Command::Insert {
+                segment: segment & 0xFFFF,
+                id,
+            },
         }
     }
 
@@ -119,6 +128,11 @@ impl Command {
             Command::Advance { segment } => {
                 bytes[0] = 0x31;
                 bytes.extend(u16::try_from(*segment).ok()?.to_be_bytes());
+            }
+            Command::Insert { segment, id } => {
+                bytes[0] = 0x32;
+                bytes.extend(u16::try_from(*segment).ok()?.to_be_bytes());
+                bytes.extend(id);
             }
         }
         Some(bytes)
@@ -143,6 +157,7 @@ impl Command {
                 )
             }
             Command::Advance { segment } => format!("advance segment {segment}"),
+            Command::Insert { segment, id } => format!("insert host, segment {segment}, id {}", hex(id)),
         }
     }
 }

@@ -85,7 +85,7 @@ impl Buffer {
     }
 }
 
-/// One side with all that it is lent; `input` is the data of a write, or a log.
+/// One side with all that it is lent; `input` is the data of a write, the id of an insertion, or a log.
 struct Lent<'a> {
     side: &'a dyn Side,
     tag: Buffer,
@@ -123,6 +123,9 @@ impl<'a> Lent<'a> {
             Command::Read { address, count, .. } => side.read(tag, session, address, count, output),
             Command::Write { address, .. } => side.write(tag, session, address, data),
             Command::Advance { segment } => side.advance(tag, session, segment),
+            Command::Insert { segment, .. } => {
+                side.insert(tag, session, segment, data.try_into().expect("an id is lent"))
+            }
         }))
         .unwrap_or(PANICKED)
     }
@@ -145,14 +148,14 @@ impl<'a> Lent<'a> {
         for (buffer, of) in [
             (&self.tag, "tag"),
             (&self.output, "output"),
-            (&self.input, "data or log"),
+            (&self.input, "data, id or log"),
         ] {
             if !buffer.margins_hold() {
                 return Err(format!("{name} writes outside the {of}"));
             }
         }
         if self.input.part() != input {
-            return Err(format!("{name} changes the data or log"));
+            return Err(format!("{name} changes the data, id or log"));
         }
         Ok(())
     }
@@ -239,6 +242,7 @@ impl<'a> Pair<'a> {
     pub fn call(&mut self, command: &Command) -> Result<u8, String> {
         let data = match command {
             Command::Write { data, .. } => data.as_slice(),
+            Command::Insert { id, .. } => id,
             _ => &[],
         };
         let room = match command {

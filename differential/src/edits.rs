@@ -8,7 +8,7 @@ use crate::units::{self, Kind, Unit, M, NAME, NE, PN, RD, RDPIN, RFU, WR, WRPIN}
 /// What the unit is to become; whether that is allowed is for the two sides to say.
 fn changed(random: &mut Random, unit: &Unit) -> Unit {
     let mut new = *unit;
-    match random.below(20) {
+    match random.below(22) {
         0 => {}
         1..4 => new[0] ^= random.pick(&[RDPIN, WRPIN, PN]),
         4 => new[0] ^= random.pick(&[NE, RFU]),
@@ -17,18 +17,25 @@ fn changed(random: &mut Random, unit: &Unit) -> Unit {
         7 => new[1] = some_model(random),
         8 => new[random.pick(&[2, 3, 10, 11, 12, 13, 14, 15])] = random.byte(),
         9..12 => change_index(random, &mut new),
-        12..14 => new[NAME..].copy_from_slice(&units::some_name(random)),
-        14 => new = units::well_formed(random),
-        15 | 16 => new = keeping_model(random, unit),
-        17 => new = some_ill_formed(random),
-        _ => enter_model_3(random, &mut new),
+        12 => new[NAME..].copy_from_slice(&units::some_name(random)),
+        13..17 => new = units::well_formed(random),
+        17 | 18 => new = keeping_model(random, unit),
+        19 => new = some_ill_formed(random),
+        20 => enter(
+            random,
+            &mut new,
+            &[Kind::Stage0, Kind::Stage0, Kind::Stage1, Kind::Stage2],
+        ),
+        _ => enter(random, &mut new, &[Kind::Stream, Kind::Stream, Kind::Shared]),
     }
     new
 }
 
 fn some_model(random: &mut Random) -> u8 {
     let any = random.byte();
-    random.pick(&[0x00, 0x01, 0x02, 0x03, 0x04, 0x10, 0x13, 0x23, 0x33, 0x83, any])
+    random.pick(&[
+        0x00, 0x01, 0x02, 0x03, 0x04, 0x14, 0x24, 0x10, 0x13, 0x23, 0x33, 0x83, any,
+    ])
 }
 
 fn change_index(random: &mut Random, unit: &mut Unit) {
@@ -52,9 +59,9 @@ fn some_ill_formed(random: &mut Random) -> Unit {
     units::ill_formed(random, way)
 }
 
-/// The bits and byte 1 of model 3 at some stage; only stage 0 may be entered.
-fn enter_model_3(random: &mut Random, unit: &mut Unit) {
-    let stage = random.pick(&[Kind::Stage0, Kind::Stage0, Kind::Stage1, Kind::Stage2]);
+/// The bits and byte 1 of model 3 or 4 at some stage; only stage 0 may be entered.
+fn enter(random: &mut Random, unit: &mut Unit, stages: &[Kind]) {
+    let stage = random.pick(stages);
     let new = units::of_kind(random, stage);
     unit[..2].copy_from_slice(&new[..2]);
 }

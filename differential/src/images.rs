@@ -1,5 +1,6 @@
 //! Images to start from: sound ones, and ones damaged in each way that soundness names.
 
+use crate::lists;
 use crate::map::{Map, FLAG, MOST, PINS, SEGMENT, SEGMENTS, UNIT, UNITS};
 use crate::random::Random;
 use crate::units::{self, Kind};
@@ -46,14 +47,16 @@ pub fn damage_name(way: usize) -> String {
     }
 }
 
-/// Mostly few segments; now and then the most, so that there is no spare place.
+/// Mostly few segments; now and then the most, so that there is no spare place, or enough for a full list of hosts.
 fn some_map(random: &mut Random) -> Map {
     let (segments, publics) = match random.below(200) {
-        0 | 1 => (MOST, random.below(3)),
-        2 => (MOST - 1, 0),
-        3 => (1 + random.below(3), MOST),
-        4 => (1 + random.below(MOST), random.below(MOST + 1)),
-        5..60 => (5 + random.below(4), random.below(3)),
+        0 => (MOST, random.below(3)),
+        1 => (MOST - 1, 0),
+        2 => (1 + random.below(3), MOST),
+        3 => (1 + random.below(MOST), random.below(MOST + 1)),
+        4..9 => (86 + random.below(8), 0),
+        9..14 => (10 + random.below(30), 0),
+        14..60 => (5 + random.below(4), random.below(3)),
         _ => (1 + random.below(4), random.below(4)),
     };
     Map { segments, publics }
@@ -74,6 +77,7 @@ pub fn some_image(random: &mut Random, may_be_damaged: bool) -> Image {
         damage: None,
         ill_formed,
     };
+    lists::fill(random, &mut image);
     if may_be_damaged {
         let way = random.below(DAMAGES);
         damage(random, &mut image, way);

@@ -7,7 +7,7 @@ use crate::sides::Run;
 #[derive(Clone, Copy, Debug, PartialEq, Eq)]
 pub enum Unreadable {
     UnknownKind,
-    ShortBody,
+    ShortBody(LogKind),
 }
 
 /// One step of a run: what stands in the log, and 0, a refusal, 15 or 16.
@@ -29,7 +29,7 @@ pub struct Walk {
 fn first_kind(log: &[u8]) -> Result<LogKind, Unreadable> {
     let kind = log_kind(log[0]).ok_or(Unreadable::UnknownKind)?;
     if kind.length() > log.len() {
-        return Err(Unreadable::ShortBody);
+        return Err(Unreadable::ShortBody(kind));
     }
     Ok(kind)
 }
@@ -39,7 +39,7 @@ fn reply(kind: LogKind, output: &[u8]) -> Option<(u8, usize)> {
     let (code, length) = kind.granted();
     match *output {
         [first, ..] if first == code && output.len() >= length => Some((0, length)),
-        [0x51, number @ 1..=14, ..] => Some((number, 2)),
+        [0x51, number @ (1..=14 | 19), ..] => Some((number, 2)),
         _ => None,
     }
 }
@@ -47,7 +47,8 @@ fn reply(kind: LogKind, output: &[u8]) -> Option<(u8, usize)> {
 impl Walk {
     /// The answers of the commands that were carried out.
     pub fn answers(&self) -> impl Iterator<Item = u8> + '_ {
-        self.steps.iter().map(|step| step.answer).filter(|&answer| answer < 15)
+        let carried_out = |answer: &u8| ![15, 16].contains(answer);
+        self.steps.iter().map(|step| step.answer).filter(carried_out)
     }
 
     /// Takes one command that has room; an error where the output has no reply to it.
@@ -101,23 +102,28 @@ pub fn walk(log: &[u8], run: Run, output: &[u8]) -> Result<Walk, String> {
     Ok(walk)
 }
 
+/// A command without the end of its body, if it has one.
+fn cut(random: &mut Random, mut bytes: Vec<u8>) -> Vec<u8> {
+    bytes.truncate(1 + random.below(bytes.len()).min(bytes.len().saturating_sub(2)));
+    bytes
+}
+
 /// Nothing, an unknown kind with commands behind it, a cut command, or any bytes.
 pub fn some_tail(random: &mut Random, command: Command) -> Vec<u8> {
     let mut bytes = command.for_log().log_bytes().expect("made for a log");
-    match random.below(10) {
+    match random.below(11) {
         0..3 => {
             let any = random.byte();
             bytes.insert(
                 0,
-                random.pick(&[0x01, 0x10, 0x15, 0x20, 0x25, 0x30, 0x32, 0x41, 0x50, 0xFF, any]),
+                random.pick(&[0x01, 0x10, 0x15, 0x20, 0x25, 0x30, 0x33, 0x41, 0x50, 0xFF, any]),
             );
             bytes
         }
-        3..6 => {
-            bytes.truncate(1 + random.below(bytes.len()).min(bytes.len().saturating_sub(2)));
-            bytes
-        }
-        6 => {
+        3..6 => cut(random, bytes),
+        // Else a cut advance would be rare.
+        6 => cut(random, vec![0x31, 0, 0]),
+        7 => {
             let count = random.below(40);
             random.bytes(count)
         }

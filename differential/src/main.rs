@@ -67,7 +67,7 @@ fn table(runs: &Runs, whole: bool) -> bool {
     let outside = runs.tally.outside_the_set();
     let not_met = if whole { runs.tally.not_met() } else { Vec::new() };
     for line in &outside {
-        println!("met, and document 01 rules it out: {line}");
+        println!("met, and the papers rule it out: {line}");
     }
     for line in &not_met {
         println!("not met: {line}");

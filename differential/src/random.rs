@@ -43,6 +43,12 @@ impl Random {
         of[self.below(of.len())]
     }
 
+    pub fn shuffle<T>(&mut self, items: &mut [T]) {
+        for end in (2..=items.len()).rev() {
+            items.swap(end - 1, self.below(end));
+        }
+    }
+
     pub fn byte(&mut self) -> u8 {
         self.number() as u8
     }

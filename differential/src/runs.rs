@@ -4,6 +4,7 @@ use crate::aim::{Aim, View};
 use crate::cases::{Case, Failure, Log};
 use crate::commands::Command;
 use crate::compare::{Lending, Pair};
+use crate::host_table;
 use crate::images::{self, Image};
 use crate::logs;
 use crate::map::{self, Place};
@@ -146,11 +147,13 @@ impl<'a> Runs<'a> {
         let command = if for_log { command.for_log() } else { command };
         self.count_ill_formed(making, &command);
         let row = table::row_of(self.pair.tag(), &command);
+        let seat = host_table::seat_of(self.pair.tag(), &command);
         let answer = self.pair.call(&command);
         let index = making.commands.len();
         making.commands.push(command);
         let answer = answer.map_err(|what| Failure { command: index, what })?;
         self.tally.call(&making.commands[index], row, answer);
+        seat.inspect(|seat| self.tally.seat(*seat, answer));
         self.commands += 1;
         Ok(())
     }

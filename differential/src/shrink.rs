@@ -3,6 +3,7 @@
 use crate::cases::{Case, Failure, Log};
 use crate::changes::{self, change_log, data, fit_room, segment_of, shorten};
 use crate::compare::Pair;
+use crate::hosts;
 use crate::map::{Map, SEGMENTS, UNITS};
 use crate::sessions::{Session, PARTS, POWER_UP};
 use std::ops::Range;
@@ -137,6 +138,8 @@ impl Shrinker<'_, '_> {
             return false;
         };
         let mut used: Vec<usize> = self.case.commands.iter().filter_map(|c| segment_of(map, c)).collect();
+        let listed = |k: &usize| hosts::is_listed(&self.case.image, *k);
+        used.extend((0..map.segments).filter(listed));
         used.sort_unstable();
         used.dedup();
         let mut changed = false;

@@ -1,5 +1,6 @@
 //! The two sides under one set of functions. Answers are numbers: 0 for granted, else the refusal.
 
+use crate::cipher::Block;
 use crate::sessions::{self, Session, EDIT, ID, NAME, PA, READ, WRITE};
 
 /// What a log run returns.
@@ -16,6 +17,7 @@ pub trait Side {
     fn read(&self, tag: &[u8], session: &Session, address: usize, count: usize, output: &mut [u8]) -> u8;
     fn write(&self, tag: &mut [u8], session: &mut Session, address: usize, data: &[u8]) -> u8;
     fn advance(&self, tag: &mut [u8], session: &Session, segment: usize) -> u8;
+    fn insert(&self, tag: &mut [u8], session: &Session, segment: usize, id: &Block) -> u8;
     fn run(&self, tag: &mut [u8], session: &mut Session, log: &[u8], output: &mut [u8]) -> Run;
 }
 
@@ -72,6 +74,10 @@ impl Side for Reference {
         of_reference(reference::advance(tag, &opened(session), segment))
     }
 
+    fn insert(&self, tag: &mut [u8], session: &Session, segment: usize, id: &Block) -> u8 {
+        of_reference(reference::insert(tag, &opened(session), segment, id))
+    }
+
     fn run(&self, tag: &mut [u8], session: &mut Session, log: &[u8], output: &mut [u8]) -> Run {
         let mut own = opened(session);
         let run = reference::run(tag, &mut own, log, output);
@@ -123,6 +129,11 @@ impl Side for Proved {
     fn advance(&self, tag: &mut [u8], session: &Session, segment: usize) -> u8 {
         let own = Box::new(dringoleth::Session::from_bytes(*session));
         of_proved(dringoleth::advance(tag, &own, segment))
+    }
+
+    fn insert(&self, tag: &mut [u8], session: &Session, segment: usize, id: &Block) -> u8 {
+        let own = Box::new(dringoleth::Session::from_bytes(*session));
+        of_proved(dringoleth::insert(tag, &own, segment, id))
     }
 
     fn run(&self, tag: &mut [u8], session: &mut Session, log: &[u8], output: &mut [u8]) -> Run {

@@ -123,10 +123,11 @@ fn endless(random: &mut Random, map: Map) -> Command {
     read(random, map.bounds(place).start, count)
 }
 
-pub fn some_advance(random: &mut Random, map: Map) -> Command {
+/// The number of a segment that is there or is not.
+fn some_segment(random: &mut Random, map: Map) -> usize {
     let end = map.segments + map.publics;
     let far = [65535, 65536, 1 << 32, 1 << 52, 1 << 63, usize::MAX];
-    let segment = match random.below(6) {
+    match random.below(6) {
         0 => map.segments + random.below(2),
         1 => map.segments + random.below(map.publics.max(1)),
         2 => end + random.below(2),
@@ -134,16 +135,25 @@ pub fn some_advance(random: &mut Random, map: Map) -> Command {
         3 => random.pick(&far) - random.below(2),
         4 => (1usize << 52) + random.below(map.segments),
         _ => random.below(map.segments),
-    };
-    Command::Advance { segment }
+    }
+}
+
+fn some_insertion(random: &mut Random, map: Map) -> Command {
+    let segment = some_segment(random, map);
+    let mut id = [0; 16];
+    random.fill(&mut id);
+    Command::Insert { segment, id }
 }
 
 pub fn some_span(random: &mut Random, map: Map) -> Command {
-    match random.below(32) {
-        0..4 => some_advance(random, map),
-        4..6 => far(random, map),
-        6 => endless(random, map),
-        7..14 => across(random, map),
+    match random.below(38) {
+        0..6 => Command::Advance {
+            segment: some_segment(random, map),
+        },
+        6..10 => some_insertion(random, map),
+        10..12 => far(random, map),
+        12 => endless(random, map),
+        13..20 => across(random, map),
         _ => inside(random, map),
     }
 }

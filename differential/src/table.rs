@@ -1,12 +1,12 @@
-//! The answers that document 01 lets each place give, and the place that a command is at.
+//! The answers that document 01 and request L4 let each place give, and the place that a command is at.
 
 use crate::commands::{Command, LogKind, LOG_COUNTS};
 use crate::logs::{Unreadable, ROOMS};
 use crate::map::{self, Map, Place};
 use crate::units;
 
-pub const PLACES: usize = 31;
-pub const LOG_KINDS: usize = 12;
+pub const PLACES: usize = 35;
+pub const LOG_KINDS: usize = 16;
 
 /// A place and the answers it can give; 0 is granted.
 pub type Row = (&'static str, &'static [u8]);
@@ -33,6 +33,8 @@ pub const READS: [Row; PLACES] = [
     ("unit: model 3, stage 0", &[0, 2, 6]),
     ("unit: model 3, stage 1", &[0, 2, 6]),
     ("unit: model 3, stage 2", &[0, 2, 6]),
+    ("unit: model 4, stage 0", &[0, 2, 6]),
+    ("unit: model 4, stage 1", &[0, 2, 6]),
     ("unit: ill formed", &[2, 5]),
     ("spare", &[2, 4]),
     ("segment: default, M clear", &[0, 2, 6, 7, 8]),
@@ -44,6 +46,9 @@ pub const READS: [Row; PLACES] = [
     ("segment: model 3, stage 0", &[2, 6]),
     ("segment: model 3, stage 1", &[2, 6]),
     ("segment: model 3, stage 2", &[0, 2, 7, 8]),
+    ("segment: model 4, stage 0", &[2, 6]),
+    // RD is set, and 6 is a slot that may not be read.
+    ("segment: model 4, stage 1", &[0, 2, 6, 7, 8]),
     ("segment: ill-formed unit", &[2, 5]),
     ("public segment", &[0, 2]),
     ("outside one place", &[2, 3]),
@@ -72,6 +77,8 @@ pub const WRITES: [Row; PLACES] = [
     ("unit: model 3, stage 0", &[0, 2, 6, 7, 13]),
     ("unit: model 3, stage 1", &[0, 2, 6, 7, 13]),
     ("unit: model 3, stage 2", &[0, 2, 6, 7, 13]),
+    ("unit: model 4, stage 0", &[0, 2, 6, 7, 13]),
+    ("unit: model 4, stage 1", &[0, 2, 6, 7, 13]),
     ("unit: ill formed", &[2, 5]),
     ("spare", &[2, 4]),
     ("segment: default, M clear", &[0, 2, 6, 7, 8]),
@@ -83,6 +90,8 @@ pub const WRITES: [Row; PLACES] = [
     ("segment: model 3, stage 1", &[0, 2, 7, 8]),
     // Well formed only with WR clear, so 6 before 7 and 8.
     ("segment: model 3, stage 2", &[2, 6]),
+    ("segment: model 4, stage 0", &[0, 2, 7, 8]),
+    ("segment: model 4, stage 1", &[2, 6]),
     ("segment: ill-formed unit", &[2, 5]),
     ("public segment", &[0, 2]),
     ("outside one place", &[2, 3]),
@@ -99,20 +108,33 @@ pub const ADVANCES: [Row; PLACES] = {
     rows[SEGMENT_ROW + 4] = ("segment: model 3, stage 0", &[0, 7, 8]);
     rows[SEGMENT_ROW + 5] = ("segment: model 3, stage 1", &[0, 7, 8]);
     rows[SEGMENT_ROW + 6] = ("segment: model 3, stage 2", &[7, 8, 14]);
-    rows[SEGMENT_ROW + 7] = ("segment: ill-formed unit", &[5]);
+    rows[SEGMENT_ROW + 7] = ("segment: model 4, stage 0", &[7, 8, 14]);
+    rows[SEGMENT_ROW + 8] = ("segment: model 4, stage 1", &[7, 8, 14]);
+    rows[SEGMENT_ROW + 9] = ("segment: ill-formed unit", &[5]);
     rows[PUBLIC_ROW] = ("public segment", &[3]);
     rows[OUTSIDE_ROW] = ("no such segment", &[3]);
     rows
 };
 
+/// An insertion is asked what an advance is, and 14 everywhere but at model 4, stage 0; there 19 may follow.
+pub const INSERTS: [Row; PLACES] = {
+    let mut rows = ADVANCES;
+    rows[SEGMENT_ROW + 4].1 = &[7, 8, 14];
+    rows[SEGMENT_ROW + 5].1 = &[7, 8, 14];
+    rows[SEGMENT_ROW + 7].1 = &[0, 7, 8, 19];
+    rows
+};
+
 const REGISTER_ROW: usize = 3;
 const UNIT_ROW: usize = 12;
-const SEGMENT_ROW: usize = 21;
-const PUBLIC_ROW: usize = 29;
-const OUTSIDE_ROW: usize = 30;
+const SPARE_ROW: usize = 22;
+const SEGMENT_ROW: usize = 23;
+const PUBLIC_ROW: usize = 33;
+const OUTSIDE_ROW: usize = 34;
 
 /// A read in a log always has a good count and room, so never 2. Only 16 bytes can be right at a register, so only a
-/// write of 16 gives 10 and 11; 32 bytes leave a register, so never 9. 14 is an advance's alone.
+/// write of 16 gives 10 and 11; 32 bytes leave a register, so never 9. 14 is an advance's or an insertion's, 19 an
+/// insertion's alone.
 pub const IN_LOGS: [Row; LOG_KINDS] = [
     ("00 power-up", &[0, 16]),
     ("11 read 1", &[0, 1, 3, 4, 5, 6, 7, 8, 16]),
@@ -124,8 +146,12 @@ pub const IN_LOGS: [Row; LOG_KINDS] = [
     ("23 write 16", &[0, 1, 3, 4, 5, 6, 7, 8, 9, 10, 11, 12, 13, 16]),
     ("24 write 32", &[0, 1, 3, 4, 5, 6, 7, 8, 12, 13, 16]),
     ("31 advance", &[0, 1, 3, 5, 7, 8, 14, 16]),
+    ("32 insert", &[0, 1, 3, 5, 7, 8, 14, 16, 19]),
     ("unknown kind", &[15, 16]),
-    ("short body", &[15, 16]),
+    ("short body of a read", &[15, 16]),
+    ("short body of a write", &[15, 16]),
+    ("short body of an advance", &[15, 16]),
+    ("short body of an insertion", &[15, 16]),
 ];
 
 /// Every reply needs two bytes or more, so that with less a run ends only over an empty log.
@@ -149,24 +175,23 @@ fn place_row(tag: &[u8], place: Option<Place>) -> usize {
         Some(Place::Pins) => 10,
         Some(Place::Readers) => 11,
         Some(Place::Unit(k)) => UNIT_ROW + kind(k),
-        Some(Place::Spare) => 20,
+        Some(Place::Spare) => SPARE_ROW,
         Some(Place::Segment(k)) => SEGMENT_ROW + kind(k),
         Some(Place::Public(_)) => PUBLIC_ROW,
         None => OUTSIDE_ROW,
     }
 }
 
-/// The place that a command is at before it is carried out; an advance is at its segment.
+/// The place that a command is at before it is carried out; an advance and an insertion are at their segment.
 pub fn place_of(map: Map, command: &Command) -> Option<Place> {
     match command {
         Command::PowerUp => None,
         Command::Read { address, count, .. } => map.place(*address, *count),
         Command::Write { address, data } => map.place(*address, data.len()),
-        Command::Advance { segment } if *segment < map.segments => Some(Place::Segment(*segment)),
-        Command::Advance { segment } => {
-            let public = segment - map.segments;
-            (public < map.publics).then_some(Place::Public(public))
-        }
+        Command::Advance { segment } | Command::Insert { segment, .. } => match segment.checked_sub(map.segments) {
+            None => Some(Place::Segment(*segment)),
+            Some(public) => (public < map.publics).then_some(Place::Public(public)),
+        },
     }
 }
 
@@ -182,8 +207,12 @@ pub fn log_row(kind: Result<LogKind, Unreadable>) -> usize {
         Ok(LogKind::Read(count)) => 1 + by_count(count),
         Ok(LogKind::Write(count)) => 5 + by_count(count),
         Ok(LogKind::Advance) => 9,
-        Err(Unreadable::UnknownKind) => 10,
-        Err(Unreadable::ShortBody) => 11,
+        Ok(LogKind::Insert) => 10,
+        Err(Unreadable::UnknownKind) => 11,
+        Err(Unreadable::ShortBody(LogKind::PowerUp | LogKind::Read(_))) => 12,
+        Err(Unreadable::ShortBody(LogKind::Write(_))) => 13,
+        Err(Unreadable::ShortBody(LogKind::Advance)) => 14,
+        Err(Unreadable::ShortBody(LogKind::Insert)) => 15,
     }
 }
 
@@ -200,19 +229,21 @@ mod tests {
     }
 
     #[test]
-    fn each_refusal_is_in_the_set_where_document_01_has_it() {
+    fn each_refusal_is_in_the_set_where_the_papers_have_it() {
         assert_eq!(answers(&READS), [0, 1, 2, 3, 4, 5, 6, 7, 8]);
         assert_eq!(answers(&WRITES), [0, 1, 2, 3, 4, 5, 6, 7, 8, 9, 10, 11, 12, 13]);
         assert_eq!(answers(&ADVANCES), [0, 1, 3, 5, 7, 8, 14]);
-        let calls: Vec<Row> = [READS, WRITES, ADVANCES].concat();
-        assert_eq!(answers(&calls), Vec::from_iter(0..=14));
+        assert_eq!(answers(&INSERTS), [0, 1, 3, 5, 7, 8, 14, 19]);
+        let calls: Vec<Row> = [READS, WRITES, ADVANCES, INSERTS].concat();
+        assert_eq!(answers(&calls), Vec::from_iter((0..=14).chain([19])));
     }
 
     #[test]
     fn a_log_gives_what_calls_give_and_15_and_16() {
-        let mut due = answers(&[READS, WRITES, ADVANCES].concat());
+        let mut due = answers(&[READS, WRITES, ADVANCES, INSERTS].concat());
         due.retain(|&answer| answer != 2);
         due.extend([15, 16]);
+        due.sort_unstable();
         assert_eq!(answers(&IN_LOGS), due);
     }
 

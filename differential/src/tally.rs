@@ -1,13 +1,14 @@
-//! How often each answer was met at each place, and what of the set in `table` was not.
+//! How often each answer was met at each place, and what of the sets in `table` and `host_table` was not.
 
 use crate::commands::Command;
+use crate::host_table::{Seat, COUNTED, INSERTIONS, LISTED_EDITS, RESULTS, SLOT_READS};
 use crate::images::{damage_name, DAMAGES};
 use crate::logs::{Step, ROOMS};
-use crate::table::{log_row, Row, ADVANCES, IN_LOGS, LOG_KINDS, PLACES, READS, STOPS, WRITES};
+use crate::table::{log_row, Row, ADVANCES, INSERTS, IN_LOGS, LOG_KINDS, PLACES, READS, STOPS, WRITES};
 use crate::units::WAYS;
 
-/// 0 is granted, then the refusals 1 to 14, then the stops 15 and 16.
-const ANSWERS: usize = 17;
+/// 0 is granted, then the refusals 1 to 14, the stops 15 and 16, and the refusal 19.
+const ANSWERS: usize = 20;
 
 type Counts = [u64; ANSWERS];
 
@@ -19,6 +20,11 @@ pub struct Tally {
     reads: [Counts; PLACES],
     writes: [Counts; PLACES],
     advances: [Counts; PLACES],
+    inserts: [Counts; PLACES],
+    insertions: [Counts; INSERTIONS.len()],
+    slot_reads: [Counts; SLOT_READS.len()],
+    listed_edits: [Counts; LISTED_EDITS.len()],
+    results: [Counts; RESULTS.len()],
     logs: [Counts; LOG_KINDS],
     rooms: [Counts; ROOMS.len()],
     damages: [u64; DAMAGES],
@@ -35,6 +41,11 @@ impl Default for Tally {
             reads: [[0; ANSWERS]; PLACES],
             writes: [[0; ANSWERS]; PLACES],
             advances: [[0; ANSWERS]; PLACES],
+            inserts: [[0; ANSWERS]; PLACES],
+            insertions: [[0; ANSWERS]; INSERTIONS.len()],
+            slot_reads: [[0; ANSWERS]; SLOT_READS.len()],
+            listed_edits: [[0; ANSWERS]; LISTED_EDITS.len()],
+            results: [[0; ANSWERS]; RESULTS.len()],
             logs: [[0; ANSWERS]; LOG_KINDS],
             rooms: [[0; ANSWERS]; ROOMS.len()],
             damages: [0; DAMAGES],
@@ -55,8 +66,23 @@ impl Tally {
             Command::Read { .. } => &mut self.reads,
             Command::Write { .. } => &mut self.writes,
             Command::Advance { .. } => &mut self.advances,
+            Command::Insert { .. } => &mut self.inserts,
         };
         rows[row][usize::from(answer)] += 1;
+    }
+
+    /// Counts a command at its seat too, which is that of `host_table::seat_of` on the tag as it was before.
+    pub fn seat(&mut self, seat: Seat, answer: u8) {
+        if !COUNTED.contains(&answer) {
+            return;
+        }
+        let counts = match seat {
+            Seat::Insertion(row) => &mut self.insertions[row],
+            Seat::SlotRead(row) => &mut self.slot_reads[row],
+            Seat::ListedEdit(row) => &mut self.listed_edits[row],
+            Seat::Result(row) => &mut self.results[row],
+        };
+        counts[usize::from(answer)] += 1;
     }
 
     pub fn run(&mut self, room: usize, stop: u8, steps: &[Step]) {
@@ -76,11 +102,16 @@ impl Tally {
         self.ill_formed[way] += 1;
     }
 
-    fn parts(&self) -> [Part<'_>; 5] {
+    fn parts(&self) -> [Part<'_>; 10] {
         [
             ("read", &READS, &self.reads),
             ("write", &WRITES, &self.writes),
             ("advance", &ADVANCES, &self.advances),
+            ("insert", &INSERTS, &self.inserts),
+            ("insert: what is against it", &INSERTIONS, &self.insertions),
+            ("read at model 4, stage 1", &SLOT_READS, &self.slot_reads),
+            ("edit of a listed unit", &LISTED_EDITS, &self.listed_edits),
+            ("edit of another, by result", &RESULTS, &self.results),
             ("log runs: commands", &IN_LOGS, &self.logs),
             (ENDS, &STOPS, &self.rooms),
         ]
@@ -88,7 +119,8 @@ impl Tally {
 
     /// Commands granted and all commands, power-ups among both.
     pub fn grants(&self) -> (u64, u64) {
-        let rows = || [&self.reads, &self.writes, &self.advances].into_iter().flatten();
+        let parts = [&self.reads, &self.writes, &self.advances, &self.inserts];
+        let rows = || parts.into_iter().flatten();
         let granted: u64 = rows().map(|counts| counts[0]).sum();
         let all: u64 = rows().flatten().sum();
         (granted + self.power_ups, all + self.power_ups)

@@ -19,7 +19,8 @@ pub const NAME: usize = 16;
 
 pub type Unit = [u8; 32];
 
-/// What governs a segment. `Clear`: M is clear, so that the default model holds.
+/// What governs a segment. `Clear`: M is clear, so that the default model holds. The stages are model 3's; model 4
+/// takes a host's `Stream` at stage 0 and holds `Shared` keys at stage 1.
 #[derive(Clone, Copy, Debug, PartialEq, Eq)]
 pub enum Kind {
     Clear,
@@ -29,10 +30,12 @@ pub enum Kind {
     Stage0,
     Stage1,
     Stage2,
+    Stream,
+    Shared,
     IllFormed,
 }
 
-pub const KINDS: [(Kind, &str); 8] = [
+pub const KINDS: [(Kind, &str); 10] = [
     (Kind::Clear, "default, M clear"),
     (Kind::Model0, "default, model 0"),
     (Kind::Model1, "model 1"),
@@ -40,6 +43,8 @@ pub const KINDS: [(Kind, &str); 8] = [
     (Kind::Stage0, "model 3, stage 0"),
     (Kind::Stage1, "model 3, stage 1"),
     (Kind::Stage2, "model 3, stage 2"),
+    (Kind::Stream, "model 4, stage 0"),
+    (Kind::Shared, "model 4, stage 1"),
     (Kind::IllFormed, "ill-formed unit"),
 ];
 
@@ -65,6 +70,8 @@ pub fn kind(unit: &Unit) -> Kind {
         (_, 0x03, WR) => Kind::Stage0,
         (_, 0x13, WR) => Kind::Stage1,
         (_, 0x23, RD) => Kind::Stage2,
+        (_, 0x04, WR) => Kind::Stream,
+        (_, 0x14, RD) => Kind::Shared,
         _ => Kind::IllFormed,
     }
 }
@@ -92,13 +99,15 @@ fn model_bytes(random: &mut Random, kind: Kind) -> (u8, u8) {
     let any = random.byte();
     let bits = random.pick(&[0, RD, WR, RD | WR, RD | WR]);
     match kind {
-        Kind::Clear => (bits, random.pick(&[0, 0x03, 0x13, 0x02, 0x01, any])),
+        Kind::Clear => (bits, random.pick(&[0, 0x03, 0x13, 0x02, 0x01, 0x04, 0x14, any])),
         Kind::Model0 => (bits | M, 0),
         Kind::Model1 => (random.pick(&[RD, WR, WR]) | M, 1),
         Kind::Model2 => (RD | WR | M, 2),
         Kind::Stage0 => (WR | M, 0x03),
         Kind::Stage1 => (WR | M, 0x13),
         Kind::Stage2 => (RD | M, 0x23),
+        Kind::Stream => (WR | M, 0x04),
+        Kind::Shared => (RD | M, 0x14),
         Kind::IllFormed => (M, 0x0F),
     }
 }
@@ -127,12 +136,12 @@ pub fn of_kind(random: &mut Random, kind: Kind) -> Unit {
 }
 
 pub fn well_formed(random: &mut Random) -> Unit {
-    let kind = KINDS[random.below(7)].0;
+    let kind = KINDS[random.below(9)].0;
     of_kind(random, kind)
 }
 
-/// Each way of being ill formed that document 01 names.
-pub const WAYS: [&str; 30] = [
+/// Each way of being ill formed that document 01 and request L4 name.
+pub const WAYS: [&str; 35] = [
     "RFU set",
     "byte 2 not 0",
     "byte 3 not 0",
@@ -148,7 +157,7 @@ pub const WAYS: [&str; 30] = [
     "RFU set, M clear",
     "a zero byte not 0, M clear",
     "an index over 255, M clear",
-    "model 4 to 15",
+    "model 5 to 15",
     "model 0, stage not 0",
     "model 1, stage not 0",
     "model 1, RD and WR clear",
@@ -163,11 +172,21 @@ pub const WAYS: [&str; 30] = [
     "model 3, stage 1, RD alone",
     "model 3, stage 2, WR alone",
     "model 3, stage 2, RD and WR alike",
+    "model 4, stage 2 to 15",
+    "model 4, stage 0, RD alone",
+    "model 4, stage 0, RD and WR alike",
+    "model 4, stage 1, WR alone",
+    "model 4, stage 1, RD and WR alike",
 ];
 
 /// A unit that is ill formed in this way (its place in `WAYS`) and in no other.
 pub fn ill_formed(random: &mut Random, way: usize) -> Unit {
-    let base = random.pick(&[Kind::Model0, Kind::Model1, Kind::Model2, Kind::Stage0, Kind::Stage1]);
+    let base = random.below(KINDS.len() - 2) + 1;
+    ill_formed_of(random, KINDS[base].0, way)
+}
+
+/// The same, otherwise of this kind where the way leaves the kind open.
+pub fn ill_formed_of(random: &mut Random, base: Kind, way: usize) -> Unit {
     let mut unit = of_kind(random, if (12..15).contains(&way) { Kind::Clear } else { base });
     match way {
         0 | 12 => unit[0] |= RFU,
@@ -186,7 +205,7 @@ fn spoil_model(random: &mut Random, unit: &mut Unit, way: usize) {
     let stage = 16 * (1 + random.below(15) as u8);
     let alike = random.pick(&[0, RD | WR]);
     let (bits, model) = match way {
-        15 => (RD | WR, 4 + random.below(12) as u8),
+        15 => (RD | WR, 5 + random.below(11) as u8),
         16 => (RD | WR, stage),
         17 => (random.pick(&[RD, WR]), stage | 1),
         18 => (0, 1),
@@ -200,7 +219,12 @@ fn spoil_model(random: &mut Random, unit: &mut Unit, way: usize) {
         26 => (alike, random.pick(&[0x03, 0x13])),
         27 => (RD, 0x13),
         28 => (WR, 0x23),
-        _ => (alike, 0x23),
+        29 => (alike, 0x23),
+        30 => (random.pick(&[RD, WR]), (16 * (2 + random.below(14) as u8)) | 4),
+        31 => (RD, 0x04),
+        32 => (alike, 0x04),
+        33 => (WR, 0x14),
+        _ => (alike, 0x14),
     };
     unit[0] = bits | free | M;
     unit[1] = model;

@@ -1,5 +1,6 @@
 //! The comparison itself: it repeats, it agrees, and it finds faults and makes them small.
 
+use differential::cipher::Block;
 use differential::report;
 use differential::runs::Runs;
 use differential::sessions::Session;
@@ -11,13 +12,15 @@ use std::time::Duration;
 /// May answer a write itself: tag, data, address.
 type Before = fn(&mut [u8], &[u8], usize) -> Option<u8>;
 
-/// The reference with one thing changed: whatever a test wants to happen at a write, a read, an advance or a run.
+/// The reference with one thing changed: whatever a test wants to happen at a write, a read, an advance, an
+/// insertion or a run.
 #[derive(Default)]
 struct Changed {
     before: Option<Before>,
     after: Option<fn(&mut [u8], u8)>,
     read: Option<fn(&mut [u8], u8)>,
     advance: Option<fn(usize)>,
+    insert: Option<fn(&mut [u8], u8)>,
     run: Option<fn(&mut [u8], Run)>,
     seen: RefCell<Vec<(usize, Vec<u8>)>>,
 }
@@ -52,6 +55,13 @@ impl Side for Changed {
         self.seen.borrow_mut().push((segment, Vec::new()));
         self.advance.inspect(|change| change(segment));
         Reference.advance(tag, session, segment)
+    }
+
+    fn insert(&self, tag: &mut [u8], session: &Session, segment: usize, id: &Block) -> u8 {
+        self.seen.borrow_mut().push((segment, id.to_vec()));
+        let answer = Reference.insert(tag, session, segment, id);
+        self.insert.inspect(|change| change(tag, answer));
+        answer
     }
 
     fn run(&self, tag: &mut [u8], session: &mut Session, log: &[u8], output: &mut [u8]) -> Run {
@@ -167,6 +177,22 @@ fn a_panic_is_an_answer() {
     };
     let (commands, told) = found(&Reference, &panics);
     assert!(commands == 1 && told.contains("the changed side: a panic"), "{told}");
+}
+
+#[test]
+fn an_insertion_that_keeps_wr() {
+    let keeps_wr = Changed {
+        insert: Some(|tag, answer| {
+            if answer == 0 {
+                tag[12288] |= 0x20;
+            }
+        }),
+        ..Changed::default()
+    };
+    let (commands, told) = found(&Reference, &keeps_wr);
+    assert_eq!(commands, 1, "{told}");
+    assert!(told.contains("1. insert host, segment 0, id "), "{told}");
+    assert!(told.contains("as a log: 32 00 00 "), "{told}");
 }
 
 #[test]

@@ -1,9 +1,9 @@
 //! The command log: running a list of commands over a tag and writing down the replies.
 
-use crate::map::Map;
+use crate::map::{Map, BLOCK};
 use crate::refusal::{Answer, Refusal};
 use crate::session::Session;
-use crate::tag::{advance_sound, read_sound, write_sound};
+use crate::tag::{advance_sound, insert_sound, read_sound, write_sound};
 
 /// The reply code of anything granted that is not a read.
 const DONE: u8 = 0x50;
@@ -48,6 +48,7 @@ enum Command<'a> {
     Read { code: u8, address: usize, count: usize },
     Write { address: usize, data: &'a [u8] },
     Advance { segment: usize },
+    Insert { segment: usize, id: &'a [u8; BLOCK] },
 }
 
 impl Command<'_> {
@@ -97,15 +98,8 @@ fn first_command(log: &[u8]) -> Option<(Command<'_>, &[u8])> {
         0x00 => Some((Command::PowerUp, body)),
         0x11..=0x14 => {
             let (address, rest) = split_address(body)?;
-            let count = COUNTS[usize::from(kind - 0x11)];
-            Some((
-                Command::Read {
-                    code: kind + 0x30,
-                    address,
-                    count,
-                },
-                rest,
-            ))
+            let (code, count) = (kind + 0x30, COUNTS[usize::from(kind - 0x11)]);
+            Some((Command::Read { code, address, count }, rest))
         }
         0x21..=0x24 => {
             let (address, rest) = split_address(body)?;
@@ -113,13 +107,13 @@ fn first_command(log: &[u8]) -> Option<(Command<'_>, &[u8])> {
             Some((Command::Write { address, data }, rest))
         }
         0x31 => {
-            let (segment, rest) = body.split_first_chunk()?;
-            Some((
-                Command::Advance {
-                    segment: usize::from(u16::from_be_bytes(*segment)),
-                },
-                rest,
-            ))
+            let (segment, rest) = split_segment(body)?;
+            Some((Command::Advance { segment }, rest))
+        }
+        0x32 => {
+            let (segment, rest) = split_segment(body)?;
+            let (id, rest) = rest.split_first_chunk()?;
+            Some((Command::Insert { segment, id }, rest))
         }
         _ => None,
     }
@@ -129,6 +123,11 @@ fn first_command(log: &[u8]) -> Option<(Command<'_>, &[u8])> {
 fn split_address(body: &[u8]) -> Option<(usize, &[u8])> {
     let (address, rest) = body.split_first_chunk()?;
     Some((u32::from_be_bytes(*address) as usize, rest))
+}
+
+fn split_segment(body: &[u8]) -> Option<(usize, &[u8])> {
+    let (segment, rest) = body.split_first_chunk()?;
+    Some((usize::from(u16::from_be_bytes(*segment)), rest))
 }
 
 /// Carries out a command and writes its reply at the front of the space, which has the room. Returns the reply's
@@ -156,6 +155,10 @@ fn carry_out(
         }
         Command::Advance { segment } => {
             let answer = map.and_then(|map| advance_sound(map, tag, session, segment));
+            reply(answer, DONE, 1, space)
+        }
+        Command::Insert { segment, id } => {
+            let answer = map.and_then(|map| insert_sound(map, tag, session, segment, id));
             reply(answer, DONE, 1, space)
         }
     }

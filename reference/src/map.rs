@@ -16,7 +16,8 @@ pub(crate) const FLAG: usize = 12;
 const HIDDEN: usize = 16;
 const REGISTERS: usize = 3984;
 const PINS: usize = 4096;
-const READER_IDS: usize = 8192;
+/// Where the reader ID segment stands.
+pub(crate) const READER_IDS: usize = 8192;
 const UNITS: usize = 12288;
 const SEGMENTS: usize = 16384;
 
@@ -139,6 +140,11 @@ fn register_at(address: usize) -> Register {
 /// The address of a unit.
 pub(crate) fn unit_address(number: usize) -> usize {
     UNITS + UNIT * number
+}
+
+/// The address of a segment.
+pub(crate) fn segment_address(number: usize) -> usize {
+    SEGMENTS + SEGMENT * number
 }
 
 /// The address of a PIN in the PIN segment.

@@ -1,6 +1,7 @@
 //! The refusals and the answer of a command.
 
-/// Why a command was refused. The discriminant is the number that document 01 gives it.
+/// Why a command was refused. The discriminant is the number that the documents give it: 1 to 14, and 19. The numbers
+/// between are not given by commands on a tag.
 #[derive(Clone, Copy, Debug, PartialEq, Eq)]
 #[repr(u8)]
 pub enum Refusal {
@@ -14,7 +15,7 @@ pub enum Refusal {
     NeverTaken = 4,
     /// The unit is not well formed.
     MalformedUnit = 5,
-    /// RD or WR is clear, nE is set, or the name is covered.
+    /// RD or WR is clear, nE is set, the name is covered, or a slot is hidden.
     NoRight = 6,
     /// The validated PIN index is not the unit's.
     WrongIndex = 7,
@@ -30,8 +31,10 @@ pub enum Refusal {
     NotNextValue = 12,
     /// The result of the edit is not allowed.
     BadEdit = 13,
-    /// There is no further stage to advance to.
+    /// There is no further stage to advance to, or the segment to insert is not model 4 at stage 0.
     NoNextStage = 14,
+    /// The list of hosts does not take the id or the segment, or is itself in disorder.
+    BadInsertion = 19,
 }
 
 impl Refusal {
@@ -77,5 +80,6 @@ mod tests {
             Refusal::NoNextStage,
         ];
         assert!(all.iter().zip(1..).all(|(refusal, number)| refusal.number() == number));
+        assert_eq!(Refusal::BadInsertion.number(), 19);
     }
 }

@@ -1,10 +1,11 @@
-//! The host commands: read, write and advance.
+//! The host commands: read, write, advance and insert.
 
-use crate::map::{bytes_at, counter, unit_address, Map, Place, COUNTER, FLAG, SEGMENT, UNIT};
+use crate::hosts::{allow_insertion, is_listed, is_shown, join};
+use crate::map::{bytes_at, counter, unit_address, Map, Place, BLOCK, COUNTER, FLAG, SEGMENT, UNIT};
 use crate::refusal::{require, Answer, Refusal};
 use crate::register::write_register;
 use crate::session::Session;
-use crate::unit::{Model, Stage, Unit, RD, WR};
+use crate::unit::{KeyStage, Model, Stage, Unit, RD, WR};
 
 /// The bytes of a slot in a counter segment.
 const SLOT: usize = 8;
@@ -28,6 +29,13 @@ pub fn advance(tag: &mut [u8], session: &Session, segment: usize) -> Answer {
     advance_sound(map, tag, session, segment)
 }
 
+/// Inserts a host with this id, whose stream is in a segment of model 4: the tag makes the keys that the host shares
+/// with those inserted before it.
+pub fn insert(tag: &mut [u8], session: &Session, segment: usize, id: &[u8; 16]) -> Answer {
+    let map = Map::of(tag)?;
+    insert_sound(map, tag, session, segment, id)
+}
+
 /// Reads as many bytes as the output holds, from a tag that has this map.
 #[inline]
 pub(crate) fn read_sound(map: Map, tag: &[u8], session: &Session, address: usize, output: &mut [u8]) -> Answer {
@@ -36,8 +44,14 @@ pub(crate) fn read_sound(map: Map, tag: &[u8], session: &Session, address: usize
     match map.place(address, count)? {
         Place::Header | Place::ReaderIds | Place::Public => {}
         Place::Hidden | Place::Pins | Place::Spare | Place::Register(_) => return Err(Refusal::NeverTaken),
-        Place::Unit(number) => unit(tag, number)?.allow_unit_read(address % UNIT + count)?,
-        Place::Segment(number) => unit(tag, number)?.allow_read(session)?,
+        Place::Unit(number) => Unit::of(tag, number)?.allow_unit_read(address % UNIT + count)?,
+        Place::Segment(number) => {
+            let unit = Unit::of(tag, number)?;
+            if unit.model == Model::SharedKey(KeyStage::Read) {
+                return read_keys(tag, session, number, address, output);
+            }
+            unit.allow_read(session)?;
+        }
     }
     output.copy_from_slice(&tag[address..address + count]);
     Ok(())
@@ -63,7 +77,7 @@ pub(crate) fn write_sound(map: Map, tag: &mut [u8], session: &mut Session, addre
 /// Advances a segment of a tag that has this map.
 pub(crate) fn advance_sound(map: Map, tag: &mut [u8], session: &Session, segment: usize) -> Answer {
     let number = map.segment(segment)?;
-    let unit = unit(tag, number)?;
+    let unit = Unit::of(tag, number)?;
     unit.allow_advance(session)?;
     let next = match unit.model {
         Model::Staged(Stage::Store) => Stage::Xor,
@@ -77,14 +91,32 @@ pub(crate) fn advance_sound(map: Map, tag: &mut [u8], session: &Session, segment
     Ok(())
 }
 
+/// Inserts the host of a segment of a tag that has this map.
+pub(crate) fn insert_sound(map: Map, tag: &mut [u8], session: &Session, segment: usize, id: &[u8; BLOCK]) -> Answer {
+    let number = map.segment(segment)?;
+    let unit = Unit::of(tag, number)?;
+    unit.allow_advance(session)?;
+    require(unit.model == Model::SharedKey(KeyStage::Store), Refusal::NoNextStage)?;
+    allow_insertion(map, tag, number, id)?;
+    join(tag, number, id);
+    tag[unit_address(number) + 1] = KeyStage::Read.model_byte();
+    make_read_only(tag, number);
+    Ok(())
+}
+
 fn check_count(count: usize) -> Answer {
     require((1..=SEGMENT).contains(&count), Refusal::BadCount)
 }
 
-#[inline(always)]
-fn unit(tag: &[u8], number: usize) -> Result<Unit<'_>, Refusal> {
-    let address = unit_address(number);
-    Unit::decode(&tag[address..address + UNIT])
+/// Reads a segment of model 4 at stage 1, where some slots are hidden. It stands apart so that no other read pays for
+/// the look at the list.
+#[cold]
+fn read_keys(tag: &[u8], session: &Session, number: usize, address: usize, output: &mut [u8]) -> Answer {
+    let count = output.len();
+    require(is_shown(tag, number, address % SEGMENT, count), Refusal::NoRight)?;
+    Unit::of(tag, number)?.allow_read(session)?;
+    output.copy_from_slice(&tag[address..address + count]);
+    Ok(())
 }
 
 /// The header takes one write: the next value of the roll-back counter.
@@ -97,32 +129,34 @@ fn write_header(tag: &mut [u8], address: usize, data: &[u8]) -> Answer {
     Ok(())
 }
 
-/// Edits part of a unit, if the unit that results is allowed.
+/// Edits part of a unit, if the unit that results is allowed. The unit of a listed segment stays as it is, since the
+/// other hosts' keys depend on it.
 fn edit(tag: &mut [u8], session: &Session, number: usize, offset: usize, data: &[u8]) -> Answer {
     let address = unit_address(number);
     let mut result: [u8; UNIT] = bytes_at(tag, address);
     store(&mut result[offset..offset + data.len()], data);
-    unit(tag, number)?.allow_edit(session, &result)?;
+    Unit::of(tag, number)?.allow_edit(session, &result)?;
+    require(!is_listed(tag, number), Refusal::BadEdit)?;
     store(&mut tag[address..address + UNIT], &result);
     Ok(())
 }
 
 #[inline]
 fn write_segment(tag: &mut [u8], session: &Session, number: usize, address: usize, data: &[u8]) -> Answer {
-    let unit = unit(tag, number)?;
+    let unit = Unit::of(tag, number)?;
     unit.allow_write(session)?;
     let model = unit.model;
     let target = &mut tag[address..address + data.len()];
     match model {
-        Model::Default | Model::Staged(Stage::Store) => store(target, data),
+        Model::Default | Model::Staged(Stage::Store) | Model::SharedKey(KeyStage::Store) => store(target, data),
         Model::WriteOnce => {
             store(target, data);
             make_read_only(tag, number);
         }
         Model::Counter => write_slot(target, address, data)?,
         Model::Staged(Stage::Xor) => xor_into(target, data),
-        // WR is clear at this stage, so the write was refused above.
-        Model::Staged(Stage::Read) => return Err(Refusal::NoRight),
+        // WR is clear at these stages, so the write was refused above.
+        Model::Staged(Stage::Read) | Model::SharedKey(KeyStage::Read) => return Err(Refusal::NoRight),
     }
     Ok(())
 }
@@ -147,7 +181,7 @@ fn is_next(value: u64, next: [u8; 8]) -> bool {
     value.checked_add(1) == Some(u64::from_be_bytes(next))
 }
 
-/// Clears WR and sets RD, the move that models 1 and 3 make themselves, whatever nE says.
+/// Clears WR and sets RD, the move that models 1, 3 and 4 make themselves, whatever nE says.
 fn make_read_only(tag: &mut [u8], number: usize) {
     let control = &mut tag[unit_address(number)];
     *control = *control & !WR | RD;

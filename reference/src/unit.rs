@@ -1,5 +1,6 @@
 //! The management unit of a segment: decoding, well-formedness, and the rights it gives a session.
 
+use crate::map::{unit_address, UNIT};
 use crate::refusal::{require, Answer, Refusal};
 use crate::session::Session;
 
@@ -43,6 +44,25 @@ impl Stage {
     }
 }
 
+/// What a unit of model 4 allows.
+#[derive(Clone, Copy, Debug, PartialEq, Eq)]
+pub(crate) enum KeyStage {
+    /// Stage 0: writes are stored, until the segment's host is inserted.
+    Store,
+    /// Stage 1: reads only, and only of slots that hold a key shared with another host.
+    Read,
+}
+
+impl KeyStage {
+    /// Byte 1 of a unit of model 4 at this stage.
+    pub(crate) fn model_byte(self) -> u8 {
+        match self {
+            KeyStage::Store => 0x04,
+            KeyStage::Read => 0x14,
+        }
+    }
+}
+
 /// The model of a segment.
 #[derive(Clone, Copy, Debug, PartialEq, Eq)]
 pub(crate) enum Model {
@@ -54,11 +74,13 @@ pub(crate) enum Model {
     Counter,
     /// Model 3.
     Staged(Stage),
+    /// Model 4.
+    SharedKey(KeyStage),
 }
 
 impl Model {
     /// The model by bytes 0 and 1, if they go together.
-    #[inline]
+    #[inline(always)]
     fn decode(control: u8, model_byte: u8) -> Option<Model> {
         if control & M == 0 {
             return Some(Model::Default);
@@ -70,6 +92,8 @@ impl Model {
             (0x03, WR) => Some(Model::Staged(Stage::Store)),
             (0x13, WR) => Some(Model::Staged(Stage::Xor)),
             (0x23, RD) => Some(Model::Staged(Stage::Read)),
+            (0x04, WR) => Some(Model::SharedKey(KeyStage::Store)),
+            (0x14, RD) => Some(Model::SharedKey(KeyStage::Read)),
             _ => None,
         }
     }
@@ -87,6 +111,13 @@ pub(crate) struct Unit<'a> {
 }
 
 impl<'a> Unit<'a> {
+    /// The unit of a segment that the tag has, if it is well formed.
+    #[inline(always)]
+    pub(crate) fn of(tag: &'a [u8], number: usize) -> Result<Unit<'a>, Refusal> {
+        let address = unit_address(number);
+        Unit::decode(&tag[address..address + UNIT])
+    }
+
     /// The unit in these 32 bytes, if they are well formed.
     #[inline(always)]
     pub(crate) fn decode(bytes: &'a [u8]) -> Result<Unit<'a>, Refusal> {
@@ -121,7 +152,7 @@ impl<'a> Unit<'a> {
         self.allow_advance(session)
     }
 
-    /// Whether the session may advance the segment: as for a write, but WR is not asked for.
+    /// Whether the session may advance the segment or insert its host: as for a write, but WR is not asked for.
     #[inline]
     pub(crate) fn allow_advance(&self, session: &Session) -> Answer {
         require(!self.has(WRPIN) || session.write == self.write, Refusal::WrongIndex)?;
@@ -142,11 +173,13 @@ impl<'a> Unit<'a> {
         require(self.may_become(&result), Refusal::BadEdit)
     }
 
-    /// A staged unit keeps its model, stage and rights; another one may only become staged at the first stage.
+    /// A unit of model 3 keeps its model, stage and rights. A result of model 3 that was another model, and every
+    /// result of model 4, is at the first stage, since edits do not do what the later stages stand for.
     fn may_become(&self, result: &Unit) -> bool {
         match (self.model, result.model) {
             (Model::Staged(_), _) => self.model == result.model && (self.control ^ result.control) & (M | BOTH) == 0,
             (_, Model::Staged(stage)) => stage == Stage::Store,
+            (_, Model::SharedKey(stage)) => stage == KeyStage::Store,
             _ => true,
         }
     }
@@ -160,7 +193,6 @@ impl<'a> Unit<'a> {
 #[cfg(test)]
 mod tests {
     use super::*;
-    use crate::map::UNIT;
 
     fn decode(control: u8, model_byte: u8) -> Option<Model> {
         let mut bytes = [0; UNIT];
@@ -179,7 +211,12 @@ mod tests {
         assert_eq!(models(0x03), [None, Some(Model::Staged(Stage::Store)), None, None]);
         assert_eq!(models(0x13), [None, Some(Model::Staged(Stage::Xor)), None, None]);
         assert_eq!(models(0x23), [None, None, Some(Model::Staged(Stage::Read)), None]);
-        for byte in (0..=255).filter(|byte| ![0x00, 0x01, 0x02, 0x03, 0x13, 0x23].contains(byte)) {
+        assert_eq!(
+            models(0x04),
+            [None, Some(Model::SharedKey(KeyStage::Store)), None, None]
+        );
+        assert_eq!(models(0x14), [None, None, Some(Model::SharedKey(KeyStage::Read)), None]);
+        for byte in (0..=255).filter(|byte| ![0x00, 0x01, 0x02, 0x03, 0x13, 0x23, 0x04, 0x14].contains(byte)) {
             assert_eq!(models(byte), [None; 4]);
         }
     }

@@ -21,6 +21,13 @@ extern "C" {
         data_len: usize,
     ) -> u8;
     pub fn dringoleth_advance(tag: *mut u8, tag_len: usize, session: *const [u8; 54], segment: usize) -> u8;
+    pub fn dringoleth_insert(
+        tag: *mut u8,
+        tag_len: usize,
+        session: *const [u8; 54],
+        segment: usize,
+        id: *const [u8; 16],
+    ) -> u8;
     pub fn dringoleth_run(
         tag: *mut u8,
         tag_len: usize,

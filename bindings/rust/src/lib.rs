@@ -49,6 +49,13 @@ pub fn advance(tag: &mut [u8], session: &Session, segment: usize) -> Answer {
     Refusal::answer(unsafe { c::dringoleth_advance(tag.as_mut_ptr(), tag.len(), session.as_bytes(), segment) })
 }
 
+/// Inserts the host with this id, whose stream is in the segment: it shares a key with each host before it, and its
+/// segment can then be read. include/dringoleth.h says what refuses it.
+pub fn insert(tag: &mut [u8], session: &Session, segment: usize, id: &[u8; 16]) -> Answer {
+    // SAFETY: as above.
+    Refusal::answer(unsafe { c::dringoleth_insert(tag.as_mut_ptr(), tag.len(), session.as_bytes(), segment, id) })
+}
+
 /// Why a run over a log ended.
 #[derive(Clone, Copy, Debug, PartialEq, Eq)]
 pub enum Stop {

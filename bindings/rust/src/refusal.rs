@@ -1,4 +1,4 @@
-//! The refusals 1 to 14.
+//! The refusals of a command, 1 to 14 and 19.
 
 use std::fmt;
 
@@ -19,11 +19,12 @@ pub enum Refusal {
     WrongResponse = 11,
     NotNext = 12,
     BadEdit = 13,
-    NoAdvance = 14,
+    OtherModel = 14,
+    BadInsertion = 19,
 }
 
 /// Each refusal with its meaning, in the order of the numbers.
-const REFUSALS: [(Refusal, &str); 14] = [
+const REFUSALS: [(Refusal, &str); 15] = [
     (Refusal::Unsound, "the tag is not sound"),
     (
         Refusal::Count,
@@ -34,7 +35,7 @@ const REFUSALS: [(Refusal, &str); 14] = [
     (Refusal::Malformed, "the unit is not well formed"),
     (
         Refusal::Forbidden,
-        "RD or WR is clear, the unit is locked, or the name is covered",
+        "RD or WR is clear, the unit is locked, the name is covered, or a slot is not to be read",
     ),
     (Refusal::OtherPin, "the validated PIN index is not the unit's"),
     (Refusal::OtherName, "the session's name is not the unit's"),
@@ -49,7 +50,14 @@ const REFUSALS: [(Refusal, &str); 14] = [
     (Refusal::WrongResponse, "the response or the guard is wrong"),
     (Refusal::NotNext, "not one aligned slot, or not the next value"),
     (Refusal::BadEdit, "the result of the edit is not allowed"),
-    (Refusal::NoAdvance, "not model 3, or at its last stage"),
+    (
+        Refusal::OtherModel,
+        "another model, or not at the stage that the command is for",
+    ),
+    (
+        Refusal::BadInsertion,
+        "the id is zeros or listed, the segment is listed, or the list of hosts is full or damaged",
+    ),
 ];
 
 impl Refusal {
@@ -59,18 +67,24 @@ impl Refusal {
 
     /// The answer that the library gives by its number.
     pub(crate) fn answer(number: u8) -> Result<(), Refusal> {
-        match number {
-            0 => Ok(()),
-            1..=14 => Err(REFUSALS[usize::from(number) - 1].0),
-            other => unreachable!("a command answers 0 to 14, and not {other}"),
+        if number == 0 {
+            return Ok(());
         }
+        match REFUSALS.iter().find(|(refusal, _)| refusal.number() == number) {
+            Some((refusal, _)) => Err(*refusal),
+            None => unreachable!("no command answers {number}"),
+        }
+    }
+
+    fn meaning(self) -> &'static str {
+        let row = REFUSALS.iter().find(|(refusal, _)| *refusal == self);
+        row.map_or("", |(_, meaning)| meaning)
     }
 }
 
 impl fmt::Display for Refusal {
     fn fmt(&self, f: &mut fmt::Formatter<'_>) -> fmt::Result {
-        let meaning = REFUSALS[usize::from(self.number()) - 1].1;
-        write!(f, "refusal {}: {meaning}", self.number())
+        write!(f, "refusal {}: {}", self.number(), self.meaning())
     }
 }
 
@@ -83,8 +97,10 @@ mod tests {
     #[test]
     fn each_number_is_its_refusals() {
         assert_eq!(Refusal::answer(0), Ok(()));
-        for number in 1..=14 {
-            assert_eq!(Refusal::answer(number).unwrap_err().number(), number);
+        for number in (1..=14).chain([19]) {
+            let refusal = Refusal::answer(number).unwrap_err();
+            assert_eq!(refusal.number(), number);
+            assert!(!refusal.meaning().is_empty());
         }
     }
 }

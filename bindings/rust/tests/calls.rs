@@ -1,6 +1,6 @@
 //! The wrapper hands everything over as it is: answers, bytes, and the parts of the session.
 
-use dringoleth::{advance, read, run, write, Refusal, Run, Session, Stop};
+use dringoleth::{advance, insert, read, run, write, Refusal, Run, Session, Stop};
 
 const PA: usize = 4080;
 const ID: usize = 4048;
@@ -55,13 +55,30 @@ fn anything_is_answered() {
     );
     assert_eq!(write(&mut none, &mut session, 0, &[]), Err(Refusal::Unsound));
     assert_eq!(advance(&mut none, &session, usize::MAX), Err(Refusal::Unsound));
+    assert_eq!(insert(&mut none, &session, usize::MAX, &[1; 16]), Err(Refusal::Unsound));
     let nothing = Run {
         read: 0,
         written: 0,
         stop: Stop::End,
     };
     assert_eq!(run(&mut none, &mut session, &[], &mut []), nothing);
-    assert_eq!(advance(&mut tag(), &session, 0), Err(Refusal::NoAdvance));
+    assert_eq!(advance(&mut tag(), &session, 0), Err(Refusal::OtherModel));
+}
+
+#[test]
+fn an_insertion_lists_the_id_and_changes_the_unit() {
+    const LIST: usize = 8192;
+    const UNIT: usize = 12288;
+    let (mut tag, session) = (tag(), Session::power_up());
+    let id: [u8; 16] = std::array::from_fn(|i| i as u8 + 1);
+    assert_eq!(insert(&mut tag, &session, 0, &id), Err(Refusal::OtherModel));
+    tag[UNIT..UNIT + 2].copy_from_slice(&[0x21, 0x04]);
+    assert_eq!(insert(&mut tag, &session, 1, &id), Err(Refusal::Outside));
+    assert_eq!(insert(&mut tag, &session, 0, &[0; 16]), Err(Refusal::BadInsertion));
+    assert_eq!(insert(&mut tag, &session, 0, &id), Ok(()));
+    assert_eq!(tag[LIST..LIST + 16], id);
+    assert_eq!(tag[LIST + 16..LIST + 18], [0, 1]);
+    assert_eq!(tag[UNIT..UNIT + 2], [0x81, 0x14]);
 }
 
 #[test]
@@ -104,5 +121,9 @@ fn a_refusal_says_what_is_wrong() {
     assert_eq!(
         Refusal::NotNext.to_string(),
         "refusal 12: not one aligned slot, or not the next value"
+    );
+    assert_eq!(
+        Refusal::BadInsertion.to_string(),
+        "refusal 19: the id is zeros or listed, the segment is listed, or the list of hosts is full or damaged"
     );
 }

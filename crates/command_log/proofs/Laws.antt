@@ -11,7 +11,7 @@ use Rattle.rules.specs.Bytes.{byte}
 use Rattle.rules.specs.Log.{Kind, kinds, kindIn, bodyLength, commandOf, wholeOf, first}
 use Rattle.command_log.specs.declared.Next.{Next}
 use Rattle.command_log.specs.declared.Next.the-variants.{Unreadable}
-use Rattle.command_log.specs.Next.{commandAt, lengthOf, Counted, ComesNext, OfKind}
+use Rattle.command_log.specs.Next.{commandAt, lengthOf, Counted, ComesNext, OfKind, otherKinds}
 
 -- ---- the kind of a byte
 
@@ -24,6 +24,25 @@ pub no-kind : (ks : List (ℕ × Kind)) (b : ℕ) → NoneOf ks b → kindIn ks 
 unfolding kindIn
 no-kind [] b n = refl
 no-kind (k ∷ ks) b n = rw (ne-eqb b (k .0) (n .0)) (no-kind ks b (n .1))
+
+-- a byte that begins no read and no write
+abbrev pub Uncounted : ℕ → Type 0
+Uncounted b =
+    (b ≢ 0x11) × (b ≢ 0x12) × (b ≢ 0x13) × (b ≢ 0x14) × (b ≢ 0x21) × (b ≢ 0x22) × (b ≢ 0x23) × (b ≢ 0x24)
+
+pub other-kind : (b : ℕ) → Uncounted b → kindIn kinds b ≡ kindIn otherKinds b
+unfolding kindIn kinds
+other-kind b n =
+    rw (
+      ne-eqb b 0x11 (n .0),
+      ne-eqb b 0x12 (n .1),
+      ne-eqb b 0x13 (n .2),
+      ne-eqb b 0x14 (n .3),
+      ne-eqb b 0x21 (n .4),
+      ne-eqb b 0x22 (n .5),
+      ne-eqb b 0x23 (n .6),
+      ne-eqb b 0x24 (n .7),
+    )
 
 -- what comes next is decided by the kind of the byte
 pub by-kind : (log : List ℕ) (at : ℕ) (k : Option Kind) (x : Next) → kindIn kinds (byte at log) ≡ k → OfKind k log at x

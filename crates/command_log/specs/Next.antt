@@ -8,8 +8,8 @@ use Rattle.rules.specs.declared.Answer.the-variants.{Done, Refused}
 use lib.ListN.{length, drop}
 use Rattle.rules.specs.Bytes.{byte, part}
 use Rattle.rules.specs.Answers.{numberOf}
-use Rattle.rules.specs.Command.{Command, read, write, advance, powerUp}
-use Rattle.rules.specs.Log.{Kind, reads, writes, kinds, kindIn, wholeOf, first, readCode}
+use Rattle.rules.specs.Command.{Command, read, write, advance, insert, powerUp}
+use Rattle.rules.specs.Log.{Kind, powers, advances, inserts, reads, writes, kinds, kindIn, wholeOf, first, readCode}
 use Rattle.command_log.specs.declared.Next.{Next}
 use Rattle.command_log.specs.declared.Next.the-variants as next
 
@@ -19,6 +19,7 @@ commandAt log at next.PowerUp = some (powerUp, 0)
 commandAt log at (next.Read a n) = some (read a n n, 4)
 commandAt log at (next.Write a n) = some (write a (part (at + 5) n log), 4 + n)
 commandAt log at (next.Advance k) = some (advance k, 2)
+commandAt log at (next.Insert k) = some (insert k (part (at + 3) 16 log), 18)
 commandAt log at next.Unreadable = none
 
 -- the bytes that it takes from the log, and the room that its reply must find
@@ -27,6 +28,7 @@ lengthOf next.PowerUp = 1
 lengthOf (next.Read a n) = 5
 lengthOf (next.Write a n) = 5 + n
 lengthOf (next.Advance k) = 3
+lengthOf (next.Insert k) = 19
 lengthOf next.Unreadable = 0
 
 abbrev pub roomOf : Next → ℕ
@@ -34,6 +36,7 @@ roomOf next.PowerUp = 2
 roomOf (next.Read a n) = 1 + n
 roomOf (next.Write a n) = 2
 roomOf (next.Advance k) = 2
+roomOf (next.Insert k) = 2
 roomOf next.Unreadable = 2
 
 -- reads and writes of a log have 1 to 32 bytes
@@ -42,6 +45,7 @@ Counted next.PowerUp = Prim.Unit
 Counted (next.Read a n) = (1 ≤ n) × (n ≤ 32)
 Counted (next.Write a n) = (1 ≤ n) × (n ≤ 32)
 Counted (next.Advance k) = Prim.Unit
+Counted (next.Insert k) = Prim.Unit
 Counted next.Unreadable = Prim.Unit
 
 -- x is what comes next in the log at `at`: the command there by the rules, or a 15
@@ -55,6 +59,10 @@ pub record OfKind (k : Option Kind) (log : List ℕ) (at : ℕ) (x : Next) : Typ
   pub command : commandAt log at x ≡ wholeOf k (drop (at + 1) log)
   pub counted : Counted x
   pub whole : at + lengthOf x ≤ length log
+
+-- the kinds that are neither a read nor a write
+abbrev pub otherKinds : List (ℕ × Kind)
+otherKinds = (0x00, powers) ∷ (0x31, advances) ∷ (0x32, inserts) ∷ []
 
 -- the two kinds with this last digit: a read and a write of n bytes
 pub record Counts (digit n : ℕ) : Type 0 where

@@ -7,9 +7,9 @@ ghost use lib.ListN.{length};
 ghost use Rattle.rules.specs.Bytes.{put};
 ghost use Rattle.rules.specs.Answers.{numberOf};
 ghost use Rattle.rules.specs.Command.{done};
-ghost use Rattle.rules.specs.Log.{reads, writes, advances, encoded, readCode};
+ghost use Rattle.rules.specs.Log.{reads, writes, advances, inserts, kindIn, encoded, readCode};
 ghost use Rattle.rules.specs.Calls.{replyOf};
-ghost use Rattle.command_log.specs.Next.{ComesNext, OfKind, Counts, Counted, lengthOf, roomOf, readHead, readLength};
+ghost use Rattle.command_log.specs.Next.{ComesNext, OfKind, otherKinds, Counts, Counted, lengthOf, roomOf, readHead, readLength};
 use rules::Answer;
 use rules::Refusal;
 
@@ -21,6 +21,8 @@ pub enum Next {
     // The same. The data are the last bytes of the body.
     Write(usize, usize),
     Advance(usize),
+    // The segment. The id are the last 16 bytes of the body.
+    Insert(usize),
     // A 15: an unknown kind or a short body.
     Unreadable,
 }
@@ -69,6 +71,29 @@ fn next_advance(log: &[u8], at: usize) -> Next
     Next::Advance(octets::number16(log, at + 1))
 }
 
+fn next_insert(log: &[u8], at: usize) -> Next
+    requires { ⌜ at < length (now log) ⌝ }
+    ensures { λ r. ⌜ OfKind (some inserts) (now (log .entry)) at r ⌝ }
+{
+    if log.len() - at < 19 {
+        return Next::Unreadable;
+    }
+    Next::Insert(octets::number16(log, at + 1))
+}
+
+// What is neither a read nor a write. It stands by itself, so that these two are found without its tests.
+fn next_other(log: &[u8], at: usize, kind: u8) -> Next
+    requires { ⌜ at < length (now log) ⌝ }
+    ensures { λ r. ⌜ OfKind (kindIn otherKinds kind) (now (log .entry)) at r ⌝ }
+{
+    match kind {
+        0x00 => Next::PowerUp,
+        0x31 => next_advance(log, at),
+        0x32 => next_insert(log, at),
+        _ => Next::Unreadable,
+    }
+}
+
 // What begins at a byte of the log.
 pub fn next_at(log: &[u8], at: usize) -> Next
     requires { ⌜ at < length (now log) ⌝ }
@@ -76,11 +101,9 @@ pub fn next_at(log: &[u8], at: usize) -> Next
 {
     let kind = log[at];
     match kind {
-        0x00 => Next::PowerUp,
         0x11..=0x14 => next_read(log, at, count_of(kind - 0x10)),
         0x21..=0x24 => next_write(log, at, count_of(kind - 0x20)),
-        0x31 => next_advance(log, at),
-        _ => Next::Unreadable,
+        _ => next_other(log, at, kind),
     }
 }
 
@@ -94,6 +117,7 @@ pub fn length_of(next: Next) -> usize
         Next::Read(_, _) => 5,
         Next::Write(_, count) => 5 + count,
         Next::Advance(_) => 3,
+        Next::Insert(_) => 19,
         Next::Unreadable => 0,
     }
 }
@@ -127,9 +151,10 @@ pub fn number_of(refusal: Refusal) -> u8
         Refusal::WrongResponse => 11,
         Refusal::NotNext => 12,
         Refusal::BadEdit => 13,
-        Refusal::NoAdvance => 14,
+        Refusal::OtherModel => 14,
         Refusal::Unreadable => 15,
         Refusal::NoRoom => 16,
+        Refusal::BadInsertion => 19,
     }
 }
 

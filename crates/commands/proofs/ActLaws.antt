@@ -13,7 +13,7 @@ use borrow.Author.Tests.{not-false, eqb-true, leb-true}
 use Rattle.rules.specs.declared.Session.{Session}
 use Rattle.rules.specs.declared.Stage.the-variants.{Zero, One, Two}
 use Rattle.rules.specs.declared.Model.{Model}
-use Rattle.rules.specs.declared.Model.the-variants.{Default, WriteOnce, Counter, Receiver}
+use Rattle.rules.specs.declared.Model.the-variants.{Default, WriteOnce, Counter, Receiver, SharedKey}
 use Rattle.rules.specs.declared.Register.{Register}
 use Rattle.rules.specs.declared.Register.the-variants.{Read, Write, Edit, Name, Id, Commit, Pa}
 use Rattle.rules.specs.declared.Place.{Place}
@@ -28,14 +28,14 @@ use Rattle.rules.specs.State.{State, state, pinIndex, ownerIndex}
 use Rattle.rules.specs.Answers.{refusalOf, numberOf}
 use Rattle.rules.specs.Refusals.{lowest, writeChecks, segmentWriteChecks, registerChecks, plainChecks, responseChecks, nameChecks, commitChecks}
 use Rattle.rules.specs.Effects.{Store, _↤_, apply, stored, readOnly, writeMove, registerStores, registerSession, writeStores, writeSession, refusalStores}
-use Rattle.rules.specs.Command.{Command, read, write, advance, powerUp, refusal as refused-by, checks, after, afterBy, newSession, sessionIn}
+use Rattle.rules.specs.Command.{Command, read, write, advance, insert, powerUp, refusal as refused-by, checks, after, afterBy, newSession, sessionIn}
 use Rattle.rules.proofs.Tests.{some-none, same-some, passes}
 use Rattle.rules.proofs.Places.{the-map}
 use Rattle.rules.proofs.MapLaws.{sound-long}
 use Rattle.rules.proofs.Refused.{eleven-or-none}
 use Rattle.rules.proofs.Grants.{granted-write, stores-write, commit-facts}
 use Rattle.units.specs.Decoded.{opened}
-use Rattle.units.proofs.Laws.{once-writable, opened-read-only}
+use Rattle.units.proofs.Laws.{once-writable, opened-read-only, unit-byte}
 use Rattle.octets.proofs.Laws.{xor-swap, length-lent}
 use Rattle.commands.specs.declared.Verdict.{Verdict}
 use Rattle.commands.specs.declared.Verdict.the-variants as verdict
@@ -43,7 +43,7 @@ use Rattle.xxtea.specs.Block.{E}
 use Rattle.rules.specs.Calls.{CarriedOut}
 use Rattle.commands.specs.Verdict.{Judged, answerOf, actOf, actIn, actAt, storesBy, Fits}
 use Rattle.registers.specs.Registers.{Taken}
-use Rattle.commands.proofs.UnitLaws.{segment-found, unit-byte}
+use Rattle.commands.proofs.UnitLaws.{segment-found}
 use Rattle.rules.proofs.Refusal as the-refusal
 use Rattle.commands.proofs.Verdict as the-verdict
 
@@ -99,7 +99,7 @@ answer-done (verdict.Take r) m = refl
 answer-done (verdict.Refuse r) m = absurd (miss acting 5 tt m)
 
 abbrev pub quiets : List ℕ
-quiets = 0 ∷ 1 ∷ 2 ∷ 3 ∷ 4 ∷ 5 ∷ 6 ∷ 7 ∷ 8 ∷ 9 ∷ 11 ∷ 12 ∷ 13 ∷ 14 ∷ 15 ∷ []
+quiets = 0 ∷ 1 ∷ 2 ∷ 3 ∷ 4 ∷ 5 ∷ 6 ∷ 7 ∷ 8 ∷ 9 ∷ 11 ∷ 12 ∷ 13 ∷ 14 ∷ 15 ∷ 16 ∷ []
 
 pub quiet : (r : Refusal) → OneOf quiets (tagOf the-refusal.the-type r) → refusalStores (numberOf r) ≡ []
 quiet r m = by (eleven-or-none r)
@@ -129,6 +129,7 @@ module _ (s : State) (a : ℕ) (bs : List ℕ) where
   segment-stores k (Receiver One) e b l w h =
       ap (λ xs. (a ↤ xs) ∷ []) (xor-swap (part a (length bs) (s .tag)) bs (length-lent a (length bs) (s .tag) l))
   segment-stores k (Receiver Two) e b l w h = refl
+  segment-stores k (SharedKey g) e b l w h = refl
 
   writable : (k : ℕ) → lowest (writeChecks E s (Segment k) a bs) ≡ none
       → (wellFormed (unitBytes (s .tag) k) ≡ true) × (unitOf (unitBytes (s .tag) k) .wr ≡ true)
@@ -146,6 +147,7 @@ module _ (s : State) (a : ℕ) (bs : List ℕ) where
   kept k (Receiver Zero) = refl
   kept k (Receiver One) = refl
   kept k (Receiver Two) = refl
+  kept k (SharedKey g) = refl
 
   granted-in : (p : Place) → sound (s .tag) ≡ true → Bytes (s .tag) → placeOf (s .tag) a (length bs) ≡ some p
       → lowest (writeChecks E s p a bs) ≡ none
@@ -210,6 +212,7 @@ module _ (s : State) (a : ℕ) (bs : List ℕ) where
   fit-segment k (Receiver Zero) l h = l
   fit-segment k (Receiver One) l h = l
   fit-segment k (Receiver Two) l h = l
+  fit-segment k (SharedKey g) l h = l
 
   fit-in : (p : Place) → sound (s .tag) ≡ true → placeOf (s .tag) a (length bs) ≡ some p
       → Fits (s .tag) a bs (actIn (s .tag) p)
@@ -252,6 +255,7 @@ module _ (s : State) (a : ℕ) (bs : List ℕ) where
   segment-takes-not k (Receiver Zero) r e = clash (cc)
   segment-takes-not k (Receiver One) r e = clash (cc)
   segment-takes-not k (Receiver Two) r e = clash (cc)
+  segment-takes-not k (SharedKey g) r e = clash (cc)
 
   register-taken : (p : Place) (r : Register) → actIn (s .tag) p ≡ verdict.Take r → p ≡ RegisterOf r
   unfolding actIn
@@ -318,6 +322,7 @@ abbrev pub Tested : Command → Type 0
 Tested (read a n room) = Prim.Unit
 Tested (write a bs) = Prim.Unit
 Tested (advance k) = Prim.Unit
+Tested (insert k id) = Prim.Unit
 Tested powerUp = ⊥
 
 pub unsound : (s : State) (c : Command) → Tested c → sound (s .tag) ≡ false
@@ -326,4 +331,5 @@ unfolding refused-by checks after afterBy refusalStores apply lowest
 unsound s (read a n room) p e = record { answered = rw e; left = rw e }
 unsound s (write a bs) p e = record { answered = rw e; left = rw e }
 unsound s (advance k) p e = record { answered = rw e; left = rw e }
+unsound s (insert k id) p e = record { answered = rw e; left = rw e }
 unsound s powerUp p e = absurd p

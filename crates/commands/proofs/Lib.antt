@@ -4,3 +4,4 @@ pub mod UnitLaws
 pub mod ReadLaws
 pub mod WriteLaws
 pub mod ActLaws
+pub mod InsertLaws

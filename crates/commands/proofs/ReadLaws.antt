@@ -1,12 +1,12 @@
 -- Laws on decoded units, reads and advances that the judges and the commands above them cite. Assumes nothing.
-use Prim.Native.Nat.{ℕ, zero, suc, _+_, _-_, _≤_, _<_}
+use Prim.Native.Nat.{ℕ, _+_, _-_, _%_, _≤_, _<_}
 use mathlib.Core.Path.{_≡_, refl, sym, ap, _∙_}
-use mathlib.Core.Logic.{_≢_, inl, inr}
+use mathlib.Core.Logic.{_≢_}
 use mathlib.Core.Bool.{Bool, true, false, _&&_, _||_, not}
 use mathlib.Core.List.{List, [], _∷_}
 use mathlib.Core.Option.{Option, none, some}
 use native.Mathlib.Omega.{arith}
-use lib.ListN.{length, take}
+use lib.ListN.{length}
 use lib.Dec.{eqb, ltb}
 use borrow.Author.Tests.{ltb-true, eqb-false, not-false, lt-ltb}
 use borrow.Rule.Slice.PartMut.{putMid, midOf}
@@ -16,7 +16,7 @@ use Rattle.rules.proofs.Place as the-place
 use Rattle.rules.specs.declared.Stage.{Stage}
 use Rattle.rules.specs.declared.Stage.the-variants.{Zero, One, Two}
 use Rattle.rules.specs.declared.Model.{Model}
-use Rattle.rules.specs.declared.Model.the-variants.{Default, WriteOnce, Counter, Receiver}
+use Rattle.rules.specs.declared.Model.the-variants.{Default, WriteOnce, Counter, Receiver, SharedKey}
 use Rattle.rules.specs.declared.Unit.{Unit}
 use Rattle.rules.specs.declared.Session.{Session}
 use Rattle.rules.specs.declared.Place.{Place}
@@ -24,39 +24,45 @@ use Rattle.rules.specs.declared.Place.the-variants.{Header, Hidden, RegisterOf,
 use Rattle.rules.specs.declared.Place.the-variants.{UnitOf, Spare, Segment, Public}
 use Rattle.rules.specs.declared.Refusal.{Refusal}
 use Rattle.rules.specs.Bytes.{byte, part, put, same}
-use Rattle.rules.specs.Map.{sound, segments, placeOf, unitAt}
+use Rattle.rules.specs.Map.{sound, segments, placeOf, segmentAt, unitAt}
 use Rattle.rules.specs.Units.{unitOf, unitBytes, wellFormed, nameOf}
+use Rattle.rules.specs.Hosts.{Host, hosts}
 use Rattle.rules.specs.State.{Cipher, State, state}
 use Rattle.rules.specs.Answers.{numberOf, refusalOf}
-use Rattle.rules.specs.Refusals.{Checks, _when_else_, granted, lowest, segmentReadChecks, unitReadChecks, readChecks}
+use Rattle.rules.specs.Refusals.{Checks, _when_else_, granted, hides, lowest, segmentReadChecks, unitReadChecks, readChecks}
 use Rattle.rules.specs.Refusals.{advanceChecks, canAdvance, isReceiver}
 use Rattle.rules.specs.Effects.{apply, advanceStores, advanced}
 use Rattle.rules.specs.Command.{read, advance, checks, refusal, inPlace, reply, replyBy, grant, filled}
 use Rattle.rules.specs.Command.{after, afterBy, stores, newSession}
-use Rattle.rules.specs.Claims.{Applies}
 use Rattle.rules.proofs.Tests.{true-false, some-none, or-false, passes, gives, leaves, none-applies, joined-three}
 use Rattle.rules.proofs.BytesLaws.{length-put}
 use Rattle.rules.proofs.MapLaws.{sizes}
 use Rattle.rules.proofs.Places.{the-map}
 use Rattle.rules.proofs.Grants.{reply-is}
-use Rattle.rules.proofs.Refused.{lowest-given, read-not-11, refused-stays}
-use Rattle.octets.proofs.Laws.{part-lent, put-back}
-use Rattle.units.specs.declared.Decoded.the-variants.{Unit as Whole}
+use Rattle.rules.proofs.Refused.{not-11, refused-stays}
+use Rattle.octets.proofs.Laws.{part-lent, put-back, put-part}
+use Rattle.units.specs.declared.Decoded.the-variants.{Unit as Whole, Malformed}
 use Rattle.units.specs.Decoded.{decoded, movedTo}
-use Rattle.units.proofs.Laws.{decoded-whole, moved-advanced}
+use Rattle.units.proofs.Laws.{decoded-whole, unit-length, unit-byte, moved-advanced}
 use Rattle.commands.specs.declared.Move.{Move}
 use Rattle.commands.specs.declared.Move.the-variants.{Advance, Refuse}
-use Rattle.commands.specs.Verdict.{rights, MoveJudged, moveAnswer}
-use Rattle.commands.proofs.UnitLaws.{formed, UnitInside, unit-inside, unit-length, unit-byte}
+use Rattle.commands.specs.Verdict.{MoveJudged, moveAnswer}
+use Rattle.commands.proofs.UnitLaws.{formless, formed, UnitInside, unit-inside}
 
 -- ---- reads of a segment and of a unit
 
-pub segment-read-by : (i : ℕ) (name u : List ℕ) (x : Unit) (named : Bool) → decoded u ≡ Whole x
-    → named ≡ same name (nameOf u)
-    → lowest (rights (not (x .rd)) (x .rdpin && not (eqb i (x .read))) (x .pn && not named))
-    ≡ lowest (segmentReadChecks i name u)
+pub segment-formless : (i : ℕ) (name t : List ℕ) (k o n : ℕ) (hs : List Host) (u : List ℕ) → u ≡ unitBytes t k
+    → decoded u ≡ Malformed → lowest (segmentReadChecks i name (unitBytes t k) k o n hs) ≡ some 5
 unfolding segmentReadChecks
-segment-read-by i name u x named e f = rw (decoded-whole u x e .1, f) (sym (formed u x _ e))
+segment-formless i name t k o n hs u e d = formless (unitBytes t k) _ (ap decoded (sym e) ∙ d)
+
+pub segment-read-by : (i : ℕ) (name t : List ℕ) (k o n : ℕ) (hs : List Host) (u : List ℕ) (x : Unit) → u ≡ unitBytes t k
+    → decoded u ≡ Whole x
+    → lowest (segmentReadChecks i name (unitBytes t k) k o n hs)
+    ≡ lowest (6 when not (x .rd) else 6 when hides (x .model) k o n hs else 7 when x .rdpin && not (eqb i (x .read)) else
+    8 when x .pn && not (same name (nameOf u)) else granted)
+unfolding segmentReadChecks
+segment-read-by i name t k o n hs u x e d = rw (← e) (formed u x _ d ∙ rw (decoded-whole u x d .1))
 
 pub unit-read-by : (u : List ℕ) (o : ℕ) (x : Unit) → decoded u ≡ Whole x
     → lowest (unitReadChecks u o) ≡ lowest (6 when x .pn && ltb 16 o else granted)
@@ -96,10 +102,11 @@ pub unit-read-in : (t : List ℕ) (v : Session) (p : Place) (k a n : ℕ) (u : L
 unfolding readChecks
 unit-read-in t v p k a n u e f = rw (e, f)
 
-pub segment-read-in : (t : List ℕ) (v : Session) (p : Place) (k a n : ℕ) (u : List ℕ) → u ≡ unitBytes t k
-    → p ≡ Segment k → lowest (segmentReadChecks (v .read) (v .name) u) ≡ lowest (readChecks (state t v) p a n)
+pub segment-read-in : (t : List ℕ) (v : Session) (p : Place) (k a n : ℕ) → a - segmentAt (segments t) k ≡ a % 4096 → p ≡ Segment k
+    → lowest (segmentReadChecks (v .read) (v .name) (unitBytes t k) k (a % 4096) n (hosts t))
+    ≡ lowest (readChecks (state t v) p a n)
 unfolding readChecks
-segment-read-in t v p k a n u e f = rw (e, f)
+segment-read-in t v p k a n e f = rw (f, e)
 
 -- ---- the checks before those of a place
 
@@ -158,7 +165,7 @@ module _ (E : Cipher) (s : State) (a n room : ℕ) where
     where
       by : (r : Option ℕ) → refusal E s (read a n room) ≡ r → after E s (read a n room) ≡ s
       by none e = unfold after afterBy stores newSession apply in rw e
-      by (some m) e = refused-stays E s (read a n room) m e (read-not-11 E s a n room m e)
+      by (some m) e = refused-stays E s (read a n room) m e (not-11 E s (read a n room) refl m e)
 
 pub count-least : (n room : ℕ) → miscounted n room ≡ false → 1 ≤ n
 count-least n room e =
@@ -185,6 +192,7 @@ no-advance Default e = refl
 no-advance WriteOnce e = refl
 no-advance Counter e = refl
 no-advance (Receiver g) e = true-false e
+no-advance (SharedKey g) e = refl
 
 pub advance-by : (i : ℕ) (name u : List ℕ) (x : Unit) (named : Bool) → decoded u ≡ Whole x
     → named ≡ same name (nameOf u)
@@ -200,22 +208,6 @@ unfolding advanceChecks
 advance-formed i name u e = not-false _ (passes _ _ _ e .0)
 
 -- ---- advances
-
--- a store at the start of a part is one in the whole
-put-own : (n : ℕ) (t : List ℕ) → put 0 (take n t) t ≡ t
-unfolding put
-put-own n [] = refl
-put-own zero (x ∷ t) = refl
-put-own (suc n) (x ∷ t) = ap (λ l. x ∷ l) (put-own n t)
-
-put-part : (a n : ℕ) (bs t : List ℕ) → length bs ≤ n → put a (put 0 bs (part a n t)) t ≡ put a bs t
-unfolding put part
-put-part a n bs [] h = refl
-put-part (suc a) n bs (x ∷ t) h = ap (λ l. x ∷ l) (put-part a n bs t h)
-put-part zero zero [] (x ∷ t) h = refl
-put-part zero zero (b ∷ bs) (x ∷ t) h = absurd (omega arith)
-put-part zero (suc n) [] (x ∷ t) h = ap (λ l. x ∷ l) (put-own n t)
-put-part zero (suc n) (b ∷ bs) (x ∷ t) h = ap (λ l. b ∷ l) (put-part zero n bs t (omega arith))
 
 put-unit : (t : List ℕ) (k : ℕ) (bs : List ℕ) → length bs ≤ 32
     → put (unitAt k) (put 0 bs (unitBytes t k)) t ≡ put (unitAt k) bs t
@@ -247,24 +239,8 @@ module _ (E : Cipher) (s : State) (k : ℕ) where
   unfolding refusal checks
   advance-placed w h = leaves 1 _ _ (ap not w) ∙ leaves 3 _ _ (ap not (lt-ltb _ _ h))
 
-  advance-not-11 : (m : ℕ) → refusal E s (advance k) ≡ some m → m ≢ 11
-  unfolding checks advanceChecks
-  advance-not-11 m e = by _ _ _ _ _ _ (lowest-given E s (advance k) .lowest-given m e .0)
-    where
-      by : (b₁ b₃ b₅ b₇ b₈ b₁₄ : Bool)
-          → Applies m (
-          1 when b₁ else 3 when b₃ else 5 when b₅ else 7 when b₇ else 8 when b₈ else 14 when b₁₄ else granted)
-          → m ≢ 11
-      by b₁ b₃ b₅ b₇ b₈ b₁₄ (inl x) = λ q. omega (arith, x .0)
-      by b₁ b₃ b₅ b₇ b₈ b₁₄ (inr (inl x)) = λ q. omega (arith, x .0)
-      by b₁ b₃ b₅ b₇ b₈ b₁₄ (inr (inr (inl x))) = λ q. omega (arith, x .0)
-      by b₁ b₃ b₅ b₇ b₈ b₁₄ (inr (inr (inr (inl x)))) = λ q. omega (arith, x .0)
-      by b₁ b₃ b₅ b₇ b₈ b₁₄ (inr (inr (inr (inr (inl x))))) = λ q. omega (arith, x .0)
-      by b₁ b₃ b₅ b₇ b₈ b₁₄ (inr (inr (inr (inr (inr (inl x)))))) = λ q. omega (arith, x .0)
-      by b₁ b₃ b₅ b₇ b₈ b₁₄ (inr (inr (inr (inr (inr (inr x)))))) = absurd x
-
   pub advance-refused : (m : ℕ) → refusal E s (advance k) ≡ some m → s ≡ after E s (advance k)
-  advance-refused m e = sym (refused-stays E s (advance k) m e (advance-not-11 m e))
+  advance-refused m e = sym (refused-stays E s (advance k) m e (not-11 E s (advance k) refl m e))
 
   -- the verdict on the unit is that on the command
   pub advance-judged : (u : List ℕ) (v : Move) → sound (s .tag) ≡ true → k < segments (s .tag)

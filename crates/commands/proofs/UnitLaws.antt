@@ -1,5 +1,5 @@
--- Laws on units that reads, writes and advances share: 5, where a unit lies, and its bytes. Assumes nothing.
-use Prim.Native.Nat.{ℕ, _+_, _≤_, _<_}
+-- Laws on units that reads, writes and advances share: 5, and where a unit lies. Assumes nothing.
+use Prim.Native.Nat.{ℕ, _+_, _-_, _%_, _≤_, _<_}
 use mathlib.Core.Path.{_≡_, ap, _∙_}
 use mathlib.Core.Bool.{true, not}
 use mathlib.Core.List.{List}
@@ -9,15 +9,12 @@ use lib.ListN.{length}
 use Rattle.rules.specs.declared.Unit.{Unit}
 use Rattle.rules.specs.declared.Place.{Place}
 use Rattle.rules.specs.declared.Place.the-variants.{UnitOf, Segment}
-use Rattle.rules.specs.Bytes.{byte}
 use Rattle.rules.specs.Map.{sound, segments, publics, placeOf, unitAt, segmentAt}
-use Rattle.rules.specs.Units.{unitBytes, wellFormed}
+use Rattle.rules.specs.Units.{wellFormed}
 use Rattle.rules.specs.Refusals.{Checks, _when_else_, lowest}
 use Rattle.rules.proofs.Tests.{gives, leaves}
-use Rattle.rules.proofs.BytesLaws.{byte-part}
-use Rattle.rules.proofs.MapLaws.{sound-long, sizes}
+use Rattle.rules.proofs.MapLaws.{sound-long, segments-aligned, sizes}
 use Rattle.rules.proofs.Places.{place-holds, placed, Extent}
-use Rattle.octets.proofs.Laws.{length-lent}
 use Rattle.units.specs.declared.Decoded.the-variants.{Unit as Whole, Malformed}
 use Rattle.units.specs.Decoded.{decoded}
 use Rattle.units.proofs.Laws.{decoded-whole, decoded-malformed}
@@ -60,14 +57,10 @@ segment-found t p k a n w e f =
     let g = sound-long t w in
     (unit-inside t k w (x .0), x .1, omega arith)
 
--- ---- the bytes of a unit
-
-pub unit-length : (t : List ℕ) (k : ℕ) (u : List ℕ) → u ≡ unitBytes t k → unitAt k + 32 ≤ length t → length u ≡ 32
-unfolding unitBytes
-unit-length t k u e h = ap length e ∙ length-lent (unitAt k) 32 t h
-
-pub unit-byte : (t : List ℕ) (k : ℕ) → byte 0 (unitBytes t k) ≡ byte (unitAt k) t
-unfolding unitBytes
-unit-byte t k =
-    let z : unitAt k + 0 ≡ unitAt k = omega arith in
-    byte-part (unitAt k) 32 t 0 (omega arith) ∙ ap (λ i. byte i t) z
+-- a segment begins at a multiple of 4,096, so that an offset in it is the address's
+pub segment-offset : (t : List ℕ) (p : Place) (k a n : ℕ) → sound t ≡ true → placeOf t a n ≡ some p → 1 ≤ n → p ≡ Segment k
+    → (k < segments t) × (a - segmentAt (segments t) k ≡ a % 4096) × (a % 4096 + n ≤ 4096)
+segment-offset t p k a n w e l f =
+    let x = found-there t p (Segment k) a n w e f in
+    let s = segments-aligned (segments t) in
+    (x .0, omega arith, omega arith)

@@ -5,7 +5,7 @@ use mathlib.Core.Path.{_≡_, refl, _∙_}
 use mathlib.Core.List.{List}
 use native.Mathlib.Omega.{arith}
 use Rattle.rules.specs.declared.Model.{Model}
-use Rattle.rules.specs.declared.Model.the-variants.{Default, WriteOnce, Counter, Receiver}
+use Rattle.rules.specs.declared.Model.the-variants.{Default, WriteOnce, Counter, Receiver, SharedKey}
 use Rattle.rules.specs.Map.{segmentAt}
 use Rattle.rules.specs.Units.{unitOf}
 use Rattle.rules.specs.Refusals.{Checks, lowest, slotRefuses, segmentWriteChecks}
@@ -29,6 +29,7 @@ slot-at Counter A k a old bs h =
     let e : (a - segmentAt A k) % 8 ≡ a % 8 = omega arith in
     rw e
 slot-at (Receiver g) A k a old bs h = refl
+slot-at (SharedKey g) A k a old bs h = refl
 
 pub checks-at : (write : ℕ) (name u : List ℕ) (A k a : ℕ) (old bs : List ℕ) → segmentAt A k ≤ a
     → segmentWriteChecks write name u (a - segmentAt A k) old bs ≡ segmentWriteChecks write name u a old bs

@@ -8,7 +8,7 @@ use lib.ListN.{length}
 use Rattle.rules.specs.declared.Stage.{Stage}
 use Rattle.rules.specs.declared.Stage.the-variants.{Zero, One, Two}
 use Rattle.rules.specs.declared.Model.{Model}
-use Rattle.rules.specs.declared.Model.the-variants.{Default, WriteOnce, Counter, Receiver}
+use Rattle.rules.specs.declared.Model.the-variants.{Default, WriteOnce, Counter, Receiver, SharedKey}
 use Rattle.rules.specs.declared.Place.{Place}
 use Rattle.rules.specs.declared.Place.the-variants.{Header, Hidden, RegisterOf, Pins, Readers, UnitOf, Spare, Segment, Public}
 use Rattle.rules.specs.declared.Answer.{Answer}
@@ -49,7 +49,7 @@ pub record Judged (cs : Checks) (act v : Verdict) : Type 0 where
   pub number : refusalOf (answerOf v) ≡ lowest cs
   pub granted : lowest cs ≡ none → v ≡ act
 
--- what a granted write does: in segment k, by its model; and in a place of the tag t. At stage 2, and in the places that
+-- what a granted write does: in segment k, by its model; and in a place of the tag t. At the last stage of a model, and in the places that
 -- take no write, nothing is granted, so that any act will do.
 unfoldable pub actOf : ℕ → Model → Verdict
 actOf k Default = verdict.Store
@@ -58,6 +58,7 @@ actOf k Counter = verdict.Store
 actOf k (Receiver Zero) = verdict.Store
 actOf k (Receiver One) = verdict.Xor
 actOf k (Receiver Two) = verdict.Store
+actOf k (SharedKey g) = verdict.Store
 
 unfoldable pub actIn : List ℕ → Place → Verdict
 actIn t Header = verdict.NextCount

@@ -9,11 +9,12 @@ ghost use Prim.Native.Nat.{_+_, _%_, _≤_, _<_};
 ghost use lib.ListN.{length};
 ghost use lib.Dec.{eqb};
 ghost use Rattle.rules.specs.Bytes.{byte, part, put, same, all};
-ghost use Rattle.rules.specs.Map.{sound, placeOf, unitAt};
+ghost use Rattle.rules.specs.Map.{sound, segments, placeOf, unitAt};
 ghost use Rattle.rules.specs.Units.{unitOf, unitBytes, nameOf};
+ghost use Rattle.rules.specs.Hosts.{hosts, listed};
 ghost use Rattle.rules.specs.State.{state};
 ghost use Rattle.rules.specs.Answers.{refusalOf, numberOf};
-ghost use Rattle.rules.specs.Refusals.{lowest, granted, _when_else_, isNext, slotRefuses, segmentReadChecks, segmentWriteChecks, unitReadChecks, editChecks, editAllowed, canAdvance, advanceChecks, headerWriteChecks, readChecks, writeChecks};
+ghost use Rattle.rules.specs.Refusals.{lowest, granted, _when_else_, isNext, slotRefuses, segmentReadChecks, segmentWriteChecks, unitReadChecks, editChecks, editAllowed, canAdvance, advanceChecks, insertChecks, headerWriteChecks, readChecks, writeChecks};
 ghost use Rattle.rules.specs.Effects.{apply, refusalStores};
 ghost use Rattle.units.specs.Decoded.{opened};
 ghost use Rattle.rules.specs.Command.{refusal, after, reply, filled};
@@ -34,9 +35,6 @@ use units::Decoded;
 
 // The address of the usage flag.
 const FLAG: usize = 12;
-
-// The address of unit 0.
-const UNITS: usize = 12288;
 
 // What a write comes to.
 enum Verdict {
@@ -85,15 +83,31 @@ fn named(unit: &[u8], name: &[u8]) -> bool
     octets::equal(name, &unit[16..32])
 }
 
-fn judge_segment_read(unit: &[u8], read: usize, name: &[u8]) -> Answer
-    requires { ⌜ length (now unit) ≡ 32 ⌝ }
-    ensures { λ r. ⌜ refusalOf r ≡ lowest (segmentReadChecks read (now (name .entry)) (now (unit .entry))) ⌝ }
+// A read of n bytes at an address in segment k. In model 4 the list of hosts may forbid it too. Each refusal returns at
+// once, so that a test is made only where those before it passed.
+fn judge_segment_read(tag: &[u8], session: Session, k: usize, at: usize, n: usize) -> Answer
+    requires { ⌜ (sound (now tag) ≡ true) × (k < segments (now tag)) × (at % 4096 + n ≤ 4096) ⌝ }
+    ensures { λ r. ⌜ refusalOf r ≡ lowest (segmentReadChecks (session .read) (session .name) (unitBytes (now (tag .entry)) k) k (at % 4096) n (hosts (now (tag .entry)))) ⌝ }
 {
+    let unit = layout::unit_of(tag, k);
     let Decoded::Unit(u) = units::decode(unit) else {
         return Answer::Refused(Refusal::Malformed);
     };
-    let other_name = u.pn & !named(unit, name);
-    judge_rights(!u.rd, u.rdpin & !(read == u.read), other_name)
+    if !u.rd {
+        return Answer::Refused(Refusal::Forbidden);
+    }
+    let model = u.model;
+    if hosts::hidden(model, tag, k, at, n) {
+        return Answer::Refused(Refusal::Forbidden);
+    }
+    if u.rdpin & !(session.read == u.read) {
+        return Answer::Refused(Refusal::OtherPin);
+    }
+    let name = session.name;
+    if u.pn & !named(unit, &name) {
+        return Answer::Refused(Refusal::OtherName);
+    }
+    Answer::Done
 }
 
 // A read of a unit that ends at an offset: with PN set it ends before the name.
@@ -112,16 +126,15 @@ fn judge_unit_read(unit: &[u8], end: usize) -> Answer
 
 // A read in its place.
 fn judge_read_in(tag: &[u8], session: Session, place: Place, at: usize, n: usize) -> Answer
-    requires { ⌜ (sound (now tag) ≡ true) × (placeOf (now tag) at n ≡ some place) ⌝ }
+    requires { ⌜ (sound (now tag) ≡ true) × (placeOf (now tag) at n ≡ some place) × (1 ≤ n) ⌝ }
     ensures { λ r. ⌜ refusalOf r ≡ lowest (readChecks (state (now (tag .entry)) session) place at n) ⌝ }
 {
     match place {
         Place::Header | Place::Readers | Place::Public(_) => Answer::Done,
-        Place::UnitOf(k) => judge_unit_read(layout::unit_of(tag, k), at + n - (UNITS + 32 * k)),
-        Place::Segment(k) => {
-            let name = session.name;
-            judge_segment_read(layout::unit_of(tag, k), session.read, &name)
+        Place::UnitOf(k) => {
+            judge_unit_read(layout::unit_of(tag, k), at + n - (layout::UNITS + 32 * k))
         }
+        Place::Segment(k) => judge_segment_read(tag, session, k, at, n),
         _ => Answer::Refused(Refusal::NeverTaken),
     }
 }
@@ -193,13 +206,14 @@ fn slot_fits(at: usize, old: &[u8], data: &[u8]) -> bool
     (at % 8 == 0) & is_next(old, data)
 }
 
-// What the model of segment k makes of a write. At stage 2 WR is clear, so that it does not come here.
+// What the model of segment k makes of a write. At the last stage of models 3 and 4 WR is clear, so that it does not come
+// here.
 fn judge_model(model: Model, k: usize, at: usize, old: &[u8], data: &[u8]) -> Verdict
     requires { ⌜ length (now old) ≡ length (now «data») ⌝ }
     ensures { λ r. ⌜ Judged (12 when slotRefuses model at (now (old .entry)) (now («data» .entry)) else granted) (actOf k model) r ⌝ }
 {
     match model {
-        Model::Default => Verdict::Store,
+        Model::Default | Model::SharedKey(_) => Verdict::Store,
         Model::WriteOnce => Verdict::StoreOnce(k),
         Model::Counter => {
             if slot_fits(at, old, data) {
@@ -251,10 +265,12 @@ fn edit_fits(model: Model, unit: &[u8], offset: usize, data: &[u8]) -> bool
     units::edit_allowed(model, unit, &edited)
 }
 
-fn judge_edit(unit: &[u8], edit: usize, offset: usize, data: &[u8]) -> Answer
-    requires { ⌜ (length (now unit) ≡ 32) × (offset + length (now «data») ≤ 32) ⌝ }
-    ensures { λ r. ⌜ refusalOf r ≡ lowest (editChecks edit (now (unit .entry)) (put offset (now («data» .entry)) (now (unit .entry)))) ⌝ }
+// An edit of unit k, by data at an address. Only an edit that passes 5, 6 and 7 looks at the list.
+fn judge_edit(tag: &[u8], edit: usize, k: usize, at: usize, data: &[u8]) -> Answer
+    requires { ⌜ (unitAt k ≤ at) × (at + length (now «data») ≤ unitAt k + 32) × (unitAt k + 32 ≤ length (now tag)) × (k < 65536) ⌝ }
+    ensures { λ r. ⌜ refusalOf r ≡ lowest (editChecks edit (listed k (hosts (now (tag .entry)))) (unitBytes (now (tag .entry)) k) (unitBytes (put at (now («data» .entry)) (now (tag .entry))) k)) ⌝ }
 {
+    let unit = layout::unit_of(tag, k);
     let Decoded::Unit(u) = units::decode(unit) else {
         return Answer::Refused(Refusal::Malformed);
     };
@@ -265,11 +281,11 @@ fn judge_edit(unit: &[u8], edit: usize, offset: usize, data: &[u8]) -> Answer
         return Answer::Refused(Refusal::OtherPin);
     }
     let model = u.model;
-    if edit_fits(model, unit, offset, data) {
-        Answer::Done
-    } else {
-        Answer::Refused(Refusal::BadEdit)
+    let offset = at - (layout::UNITS + 32 * k);
+    if hosts::lists(tag, k) | !edit_fits(model, unit, offset, data) {
+        return Answer::Refused(Refusal::BadEdit);
     }
+    Answer::Done
 }
 
 // ---- the verdict on a write
@@ -281,13 +297,6 @@ fn verdict_of(answer: Answer, act: Verdict) -> Verdict
         Answer::Done => act,
         Answer::Refused(r) => Verdict::Refuse(r),
     }
-}
-
-fn judge_edit_at(tag: &[u8], edit: usize, k: usize, at: usize, data: &[u8]) -> Answer
-    requires { ⌜ (unitAt k ≤ at) × (at + length (now «data») ≤ unitAt k + 32) × (unitAt k + 32 ≤ length (now tag)) ⌝ }
-    ensures { λ r. ⌜ refusalOf r ≡ lowest (editChecks edit (unitBytes (now (tag .entry)) k) (unitBytes (put at (now («data» .entry)) (now (tag .entry))) k)) ⌝ }
-{
-    judge_edit(layout::unit_of(tag, k), edit, at - (UNITS + 32 * k), data)
 }
 
 fn judge_segment_at(tag: &[u8], session: Session, k: usize, at: usize, data: &[u8]) -> Verdict
@@ -318,10 +327,10 @@ fn judge_write_in(tag: &[u8], session: Session, place: Place, at: usize, data: &
             let answer = registers::judge(tag, session, register, data);
             verdict_of(answer, Verdict::Take(register))
         }
-        Place::UnitOf(k) => verdict_of(
-            judge_edit_at(tag, session.edit, k, at, data),
-            Verdict::Store,
-        ),
+        Place::UnitOf(k) => {
+            let answer = judge_edit(tag, session.edit, k, at, data);
+            verdict_of(answer, Verdict::Store)
+        }
         Place::Segment(k) => judge_segment_at(tag, session, k, at, data),
         Place::Public(_) => Verdict::Store,
         _ => Verdict::Refuse(Refusal::NeverTaken),
@@ -382,7 +391,7 @@ fn carry_out(tag: &mut [u8], at: usize, data: &[u8], verdict: Verdict)
     match verdict {
         Verdict::Store => octets::store_at(tag, at, data),
         Verdict::Xor => octets::xor_at(tag, at, data),
-        Verdict::StoreOnce(k) => store_once(tag, at, data, UNITS + 32 * k),
+        Verdict::StoreOnce(k) => store_once(tag, at, data, layout::UNITS + 32 * k),
         Verdict::NextCount => {
             octets::store_at(tag, at, data);
             tag[FLAG] = 0;
@@ -420,12 +429,12 @@ fn judge_stage(model: Model) -> Move
     ensures { λ r. ⌜ MoveJudged (14 when not (canAdvance model) else granted) model r ⌝ }
 {
     let Model::Receiver(stage) = model else {
-        return Move::Refuse(Refusal::NoAdvance);
+        return Move::Refuse(Refusal::OtherModel);
     };
     match stage {
         Stage::Zero => Move::Advance(Stage::Zero),
         Stage::One => Move::Advance(Stage::One),
-        Stage::Two => Move::Refuse(Refusal::NoAdvance),
+        Stage::Two => Move::Refuse(Refusal::OtherModel),
     }
 }
 
@@ -456,13 +465,56 @@ fn advance_sound(tag: &mut [u8], session: Session, segment: usize) -> Answer
     let name = session.name;
     match judge_advance(layout::unit_of(tag, segment), session.write, &name) {
         Move::Advance(stage) => {
-            let start = UNITS + 32 * segment;
+            let start = layout::UNITS + 32 * segment;
             let end = start + 32;
             units::advance(&mut tag[start..end], stage);
             Answer::Done
         }
         Move::Refuse(r) => Answer::Refused(r),
     }
+}
+
+// ---- insertions
+
+// 5, 7, 8, 14 and 19, in this order.
+fn judge_insert(tag: &[u8], write: usize, name: &[u8], k: usize, id: [u8; 16]) -> Answer
+    requires { ⌜ (sound (now tag) ≡ true) × (k < segments (now tag)) × (length id ≡ 16) ⌝ }
+    ensures { λ r. ⌜ refusalOf r ≡ lowest (insertChecks write (now (name .entry)) (now (tag .entry)) k id) ⌝ }
+{
+    let unit = layout::unit_of(tag, k);
+    let Decoded::Unit(u) = units::decode(unit) else {
+        return Answer::Refused(Refusal::Malformed);
+    };
+    let other_name = u.pn & !named(unit, name);
+    let other_pin = u.wrpin & !(write == u.write);
+    let held = judge_rights(false, other_pin, other_name);
+    if let Answer::Refused(r) = held {
+        return Answer::Refused(r);
+    }
+    let model = u.model;
+    if !units::is_filling(model) {
+        return Answer::Refused(Refusal::OtherModel);
+    }
+    if hosts::refuses(tag, k, id) {
+        return Answer::Refused(Refusal::BadInsertion);
+    }
+    Answer::Done
+}
+
+fn insert_sound(tag: &mut [u8], session: Session, segment: usize, id: [u8; 16]) -> Answer
+    requires { ⌜ (sound (now tag) ≡ true) × (length id ≡ 16) ⌝ }
+    ensures { λ r. ⌜ refusalOf r ≡ refusal E (state (now (tag .entry)) session) (command.insert segment id) ⌝ }
+    ensures { λ _. ⌜ state (now (tag .exit)) session ≡ after E (state (now (tag .entry)) session) (command.insert segment id) ⌝ }
+{
+    if !(segment < layout::segments(tag)) {
+        return Answer::Refused(Refusal::Outside);
+    }
+    let name = session.name;
+    let answer = judge_insert(tag, session.write, &name, segment, id);
+    if let Answer::Done = answer {
+        hosts::insert(tag, segment, id);
+    }
+    answer
 }
 
 // ---- the commands, on any bytes whatever. The caller has tested whether the tag is sound.
@@ -506,4 +558,20 @@ pub fn advance(tag: &mut [u8], tested: bool, session: Session, segment: usize) -
         return Answer::Refused(Refusal::Unsound);
     }
     advance_sound(tag, session, segment)
+}
+
+pub fn insert(
+    tag: &mut [u8],
+    tested: bool,
+    session: Session,
+    segment: usize,
+    id: [u8; 16],
+) -> Answer
+    requires { ⌜ tested ≡ sound (now tag) ⌝ }
+    ensures { λ r. ⌜ CarriedOut E (state (now (tag .entry)) session) (command.insert segment id) (now (tag .exit)) (outcome r session) ⌝ }
+{
+    if !tested {
+        return Answer::Refused(Refusal::Unsound);
+    }
+    insert_sound(tag, session, segment, id)
 }

@@ -6,9 +6,16 @@ ghost use Prim.Native.Nat.{ℕ, _+_, _%_, _≤_, _<_};
 ghost use lib.ListN.{length};
 ghost use Rattle.rules.specs.Map.{segments, publics, most, segmentsAt, sound, unitAt, rows, registerNo, find, placeOf};
 ghost use Rattle.rules.specs.Units.{unitBytes};
+ghost use Rattle.rules.specs.Hosts.{readers};
 ghost use Rattle.layout.specs.Found.{found, foundIf, countsFit, restFits};
 use rules::Place;
 use rules::Register;
+
+// The address of the reader ID segment.
+pub const READERS: usize = 8192;
+
+// The address of unit 0, where the reader ID segment ends.
+pub const UNITS: usize = 12288;
 
 // The place that holds a range of addresses, if one does.
 pub enum Found {
@@ -32,18 +39,26 @@ pub fn publics(tag: &[u8]) -> usize
     octets::number16(tag, 2)
 }
 
+// The 4,096 bytes of the reader ID segment.
+pub fn readers(tag: &[u8]) -> &[u8]
+    requires { ⌜ 12288 ≤ length (now tag) ⌝ }
+    ensures { λ r. ⌜ now r ≡ readers (now (tag .entry)) ⌝ }
+{
+    &tag[READERS..UNITS]
+}
+
 // The 32 bytes of unit k.
 pub fn unit_of(tag: &[u8], k: usize) -> &[u8]
     requires { ⌜ unitAt k + 32 ≤ length (now tag) ⌝ }
     ensures { λ r. ⌜ now r ≡ unitBytes (now (tag .entry)) k ⌝ }
 {
-    let start = 12288 + 32 * k;
+    let start = UNITS + 32 * k;
     let end = start + 32;
     &tag[start..end]
 }
 
 // Where the segments begin, behind the units of A segments.
-fn segments_at(_a: usize) -> usize
+pub fn segments_at(_a: usize) -> usize
     ensures { λ r. ⌜ r ≡ segmentsAt «_a» ⌝ }
 {
     16384
@@ -124,7 +139,7 @@ fn fixed_place(at: usize, n: usize) -> Found
     if at < 4096 {
         return first_place(at, n);
     }
-    if at < 8192 {
+    if at < READERS {
         Found::In(Place::Pins)
     } else {
         Found::In(Place::Readers)
@@ -136,7 +151,7 @@ fn unit_place(a: usize, at: usize, n: usize) -> Found
     requires { ⌜ (a ≤ most) × (12288 ≤ at) × (at + n ≤ segmentsAt a) × (1 ≤ n) ⌝ }
     ensures { λ r. ⌜ ((p : ℕ) → found r ≡ find (rows a p) at n) ⌝ }
 {
-    let k = (at - 12288) / 32;
+    let k = (at - UNITS) / 32;
     if k < a {
         within(n <= 32 - at % 32, Place::UnitOf(k))
     } else {
@@ -168,7 +183,7 @@ pub fn place_of(tag: &[u8], at: usize, n: usize) -> Found
     if segments_at(a) <= at {
         return segment_place(a, publics(tag), at, n);
     }
-    if at < 12288 {
+    if at < UNITS {
         fixed_place(at, n)
     } else {
         unit_place(a, at, n)

@@ -1,5 +1,5 @@
 -- The laws that the loops of `octets` and the callers of its leaves cite. Assumes nothing.
-use Prim.Native.Nat.{ℕ, zero, suc, _+_, _-_, _*_, _≤_, _<_}
+use Prim.Native.Nat.{ℕ, zero, suc, _+_, _-_, _*_, _/_, _%_, _≤_, _<_}
 use mathlib.Core.Path.{_≡_, refl, sym, ap, _∙_}
 use mathlib.Core.Logic.{_⊎_, inl, inr}
 use mathlib.Core.Bool.{Bool, true, false, _&&_}
@@ -11,8 +11,8 @@ use lib.Seq.{length-take-le}
 use borrow.Rule.Slice.PartMut.{putMid, midOf}
 use lib.Bits.{bitXor, xor-comm}
 use lib.Dec.{eqb}
-use Rattle.rules.proofs.BytesLaws.{length-put, put-behind, length-xor}
-use Rattle.rules.specs.Bytes.{part, put, number, numberFrom, same, zeros, xor}
+use Rattle.rules.proofs.BytesLaws.{length-put, put-behind, put-append, length-xor}
+use Rattle.rules.specs.Bytes.{bytesOf, part, put, number, numberFrom, same, zeros, xor}
 
 -- ---- numbers: the first byte of a part is its highest digit
 
@@ -240,6 +240,29 @@ pub put-back : (a n : ℕ) (t ys bs : List ℕ) → ys ≡ bs → length bs ≡ 
 put-back a n t ys bs p e h =
     let k : a + n - a ≡ length bs = omega arith in
     rw (p, k) (put-middle a bs t (omega arith))
+
+-- a store at the start of a part is one in the whole
+put-own : (n : ℕ) (t : List ℕ) → put 0 (take n t) t ≡ t
+unfolding put
+put-own n [] = refl
+put-own zero (x ∷ t) = refl
+put-own (suc n) (x ∷ t) = ap (λ l. x ∷ l) (put-own n t)
+
+pub put-part : (a n : ℕ) (bs t : List ℕ) → length bs ≤ n → put a (put 0 bs (part a n t)) t ≡ put a bs t
+unfolding put part
+put-part a n bs [] h = refl
+put-part (suc a) n bs (x ∷ t) h = ap (λ l. x ∷ l) (put-part a n bs t h)
+put-part zero zero [] (x ∷ t) h = refl
+put-part zero zero (b ∷ bs) (x ∷ t) h = absurd (omega arith)
+put-part zero (suc n) [] (x ∷ t) h = ap (λ l. x ∷ l) (put-own n t)
+put-part zero (suc n) (b ∷ bs) (x ∷ t) h = ap (λ l. b ∷ l) (put-part zero n bs t (omega arith))
+
+-- a number of two bytes
+pub put-number : (a i : ℕ) (t : List ℕ) → set (set t a (i / 256 % 256)) (a + 1) (i % 256) ≡ put a (bytesOf 2 i) t
+unfolding bytesOf
+put-number a i t =
+    rw (set-put a (i / 256 % 256) t, set-put (a + 1) (i % 256) (put a (i / 256 % 256 ∷ []) t))
+    (sym (put-append a (i / 256 % 256 ∷ []) (i % 256 ∷ []) t))
 
 pub xor-swap : (xs ys : List ℕ) → length xs ≡ length ys → xor xs ys ≡ xor ys xs
 unfolding xor

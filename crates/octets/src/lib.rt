@@ -5,7 +5,7 @@ ghost use mathlib.Core.Path.{_≡_};
 ghost use mathlib.Core.Logic.{_⊎_};
 ghost use Prim.Native.Nat.{_+_, _≤_, _<_};
 ghost use lib.ListN.{length, replicate};
-ghost use Rattle.rules.specs.Bytes.{number, part, put, same, xor, zeros};
+ghost use Rattle.rules.specs.Bytes.{bytesOf, number, part, put, same, xor, zeros};
 
 fn wide(byte: u8) -> u64
     ensures { λ r. ⌜ (r ≡ byte) × (r < 256) ⌝ }
@@ -121,6 +121,15 @@ pub fn store_at(bytes: &mut [u8], at: usize, data: &[u8])
 {
     let end = at + data.len();
     store(&mut bytes[at..end], data)
+}
+
+// A number as two bytes, most significant first, at an address.
+pub fn store16(bytes: &mut [u8], at: usize, value: usize)
+    requires { ⌜ at + 2 ≤ length (now bytes) ⌝ }
+    ensures { λ _. ⌜ now (bytes .exit) ≡ put at (bytesOf 2 value) (now (bytes .entry)) ⌝ }
+{
+    bytes[at] = (value / 256 % 256) as u8;
+    bytes[at + 1] = (value % 256) as u8;
 }
 
 // What is there becomes its XOR with the data.

@@ -1,18 +1,16 @@
 -- Laws of parts, stores and numbers of bytes.
 use Prim.Native.Nat.{ℕ, zero, suc, _+_, _-_, _*_, _/_, _%_, _^_, _≤_, _<_, min}
-use mathlib.Core.Path.{_≡_, refl, sym, ap, _∙_}
+use mathlib.Core.Path.{_≡_, refl, sym, ap, ap₂, subst, _∙_}
 use mathlib.Core.Bool.{true}
 use mathlib.Core.List.{List, [], _∷_, _++_}
 use native.Mathlib.Omega.{arith}
-use native.Mathlib.Nat.{div-add-mod', div-lt-iff-lt-mul, pow-suc, add-comm, add-suc, suc-add}
+use native.Mathlib.Nat.{div-add-mod', div-lt-iff-lt-mul, pow-suc, add-comm, add-suc, suc-add, mod-lt}
 use lib.ListN.{length, take, drop, length-take, length-drop, length-append}
+use lib.Arith.{bin-ind}
+use lib.Bits.{bitXor, differ, xor-step, xor-zero-r}
 use lib.Seq.{ext-getD, getD-take, getD-drop}
 use borrow.Author.Tests.{eq-eqb}
-use Rattle.rules.specs.Bytes.{part, put, byte, same, xor, bytesOf, number, numberFrom}
-
--- no byte is both among the n at a and among the m at x
-abbrev pub Apart : ℕ → ℕ → ℕ → ℕ → Type 0
-Apart a n x m = (i : ℕ) → a ≤ i → i < a + n → x ≤ i → i < x + m → ⊥
+use Rattle.rules.specs.Bytes.{part, put, byte, same, xor, bytesOf, number, numberFrom, Apart}
 
 -- ---- a store, byte by byte
 
@@ -184,3 +182,56 @@ pub part-front : (xs ys : List ℕ) → part 0 (length xs) (xs ++ ys) ≡ xs
 unfolding part
 part-front [] ys = refl
 part-front (x ∷ xs) ys = ap {B = List ℕ} (λ r. x ∷ r) (part-front xs ys)
+
+-- ---- XOR, twice with the same
+
+differ-twice : (x y : ℕ) → x < 2 → y < 2 → differ (differ x y) x ≡ y
+differ-twice zero zero a b = refl
+differ-twice zero (suc zero) a b = refl
+differ-twice zero (suc (suc y)) a b = absurd (omega arith)
+differ-twice (suc zero) zero a b = refl
+differ-twice (suc zero) (suc zero) a b = refl
+differ-twice (suc zero) (suc (suc y)) a b = absurd (omega arith)
+differ-twice (suc (suc x)) y a b = absurd (omega arith)
+
+differ-small : (x y : ℕ) → x < 2 → y < 2 → differ x y < 2
+differ-small zero y a b = b
+differ-small (suc x) zero a b = a
+differ-small (suc zero) (suc zero) a b = omega arith
+differ-small (suc zero) (suc (suc y)) a b = absurd (omega arith)
+differ-small (suc (suc x)) (suc y) a b = absurd (omega arith)
+
+bits-twice : (a b : ℕ) → bitXor (bitXor a b) a ≡ b
+bits-twice = bin-ind (λ (n : ℕ). (b : ℕ) → bitXor (bitXor n b) n ≡ b) (λ b. xor-zero-r b) step
+  where
+    step : (n : ℕ) → ((b : ℕ) → bitXor (bitXor (n / 2) b) (n / 2) ≡ b) → (b : ℕ) → bitXor (bitXor n b) n ≡ b
+    step n ih b =
+        let p : n % 2 < 2 = mod-lt n (omega arith) in
+        let q : b % 2 < 2 = mod-lt b (omega arith) in
+        let d = differ-small (n % 2) (b % 2) p q in
+        let e = xor-step n b in
+        let high : bitXor n b / 2 ≡ bitXor (n / 2) (b / 2) = omega (arith, e, d) in
+        let low : bitXor n b % 2 ≡ differ (n % 2) (b % 2) = omega (arith, e, d) in
+        xor-step (bitXor n b) n
+        ∙ ap₂ (λ (x y : ℕ). bitXor x (n / 2) * 2 + differ y (n % 2)) high low
+        ∙ ap₂ (λ (x y : ℕ). x * 2 + y) (ih (b / 2)) (differ-twice (n % 2) (b % 2) p q)
+        ∙ div-add-mod' b 2
+
+pub xor-twice : (xs ys : List ℕ) → length xs ≡ length ys → xor (xor xs ys) xs ≡ ys
+unfolding xor
+xor-twice [] [] e = refl
+xor-twice [] (y ∷ ys) e = absurd (omega arith)
+xor-twice (x ∷ xs) [] e = absurd (omega arith)
+xor-twice (x ∷ xs) (y ∷ ys) e = ap₂ {C = List ℕ} (λ z zs. z ∷ zs) (bits-twice x y) (xor-twice xs ys (omega arith))
+
+-- ---- the parts of a list that was put together
+
+pub front : (n : ℕ) (xs ys : List ℕ) → length xs ≡ n → part 0 n (xs ++ ys) ≡ xs
+front n xs ys e = subst (λ k. part 0 k (xs ++ ys) ≡ xs) e (part-front xs ys)
+
+pub behind : (a n o : ℕ) (xs ys : List ℕ) → length xs ≡ a → part (a + o) n (xs ++ ys) ≡ part o n ys
+unfolding part
+behind a n o [] ys e = let k : a + o ≡ o = omega arith in rw k
+behind zero n o (x ∷ xs) ys e = absurd (omega arith)
+behind (suc a) n o (x ∷ xs) ys e =
+    let k : suc a + o ≡ suc (a + o) = omega arith in rw k (behind a n o xs ys (omega arith))

@@ -24,27 +24,15 @@ use Rattle.rules.specs.State.{Cipher, State, state, pinIndex, poweredUp,
 use Rattle.rules.specs.Answers.{refusalOf, stopNumber, codeOf}
 use Rattle.rules.specs.Refusals.{Checks, _when_else_, lowest, registerChecks, responseChecks, nameChecks, plainChecks, writeChecks}
 use Rattle.rules.specs.Effects.{registerSession, writeSession}
-use Rattle.rules.specs.Command.{Command, read, write, advance, powerUp, refused, refusal, reply, after, afterBy, newSession, sessionIn}
+use Rattle.rules.specs.Command.{Command, read, write, advance, insert, powerUp, refused, refusal, reply, after, afterBy, newSession, sessionIn}
 use Rattle.rules.specs.Log.{Parsed, end, unreadable, _taking_then_, encoded, roomFor, stopped, onward, carriedOut, runLog, Ran, parsed}
 use Rattle.rules.specs.Runs.{runOver, resultOf}
 use Rattle.rules.specs.Calls.{CarriedOut, outcome}
 use Rattle.rules.specs.CCalls.{sessionOf, sessionBytes, Fits, NothingLost, SessionFits, CalledIsCall, RunCalledIsRun}
 use Rattle.rules.proofs.Tests.{passes}
-use Rattle.rules.proofs.BytesLaws.{length-bytesOf, number-bytesOf, part-front, length-part, length-xor}
+use Rattle.rules.proofs.BytesLaws.{front, behind, length-bytesOf, number-bytesOf, length-part, length-xor}
 use Rattle.rules.proofs.Grants.{granted-write}
 use Rattle.rules.proofs.Refused.{refusal-named}
-
--- ---- the parts of a list that was put together
-
-front : (n : ℕ) (xs ys : List ℕ) → length xs ≡ n → part 0 n (xs ++ ys) ≡ xs
-front n xs ys e = subst (λ k. part 0 k (xs ++ ys) ≡ xs) e (part-front xs ys)
-
-behind : (a n o : ℕ) (xs ys : List ℕ) → length xs ≡ a → part (a + o) n (xs ++ ys) ≡ part o n ys
-unfolding part
-behind a n o [] ys e = let k : a + o ≡ o = omega arith in rw k
-behind zero n o (x ∷ xs) ys e = absurd (omega arith)
-behind (suc a) n o (x ∷ xs) ys e =
-    let k : suc a + o ≡ suc (a + o) = omega arith in rw k (behind a n o xs ys (omega arith))
 
 -- ---- a list as its parts
 
@@ -200,6 +188,7 @@ granted-fits E s (read a n room) e h = h
 granted-fits E s (write a bs) e h =
     let g = granted-write E s a bs e in rw (g .found) (write-fits E s (g .place) a bs (g .free) h)
 granted-fits E s (advance k) e h = h
+granted-fits E s (insert k id) e h = h
 granted-fits E s powerUp e h = fit _ (omega arith) (omega arith) (omega arith) refl refl refl
 
 command-fits : (E : Cipher) (s : State) → Fits (s .session) → (c : Command) → Fits (after E s c .session)

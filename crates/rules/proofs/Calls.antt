@@ -16,7 +16,7 @@ use Rattle.rules.specs.State.{Cipher, State, state, poweredUp}
 use Rattle.rules.specs.Answers.{refusalOf, numberOf}
 use Rattle.rules.specs.Refusals.{lowest}
 use Rattle.rules.specs.Effects.{apply, refusalStores}
-use Rattle.rules.specs.Command.{Command, Reply, stores, newSession, done, gives, read, write, advance, powerUp, checks, refusal, grant, reply, replyBy, after, afterBy, filled}
+use Rattle.rules.specs.Command.{Command, Reply, stores, newSession, done, gives, read, write, advance, insert, powerUp, checks, refusal, grant, reply, replyBy, after, afterBy, filled}
 use Rattle.rules.specs.Run.{final, replies}
 use Rattle.rules.proofs.BytesLaws.{part-put-same}
 use Rattle.rules.proofs.GrantedRead.{granted-read}
@@ -24,7 +24,7 @@ use Rattle.rules.specs.Demand3.{withCopies, withoutCopies}
 use Rattle.rules.proofs.Demand3.{demand-3}
 use Rattle.rules.proofs.Refused.{eleven-or-none}
 use Rattle.rules.proofs.Counting.{one-answer-each}
-use Rattle.rules.specs.Calls.{RefusedLeaves, RefusedReads, CallsFollow, replyOf, Call, reads, writes, advances, powers-up, no-more, then, CallsDemand3}
+use Rattle.rules.specs.Calls.{RefusedLeaves, RefusedReads, CallsFollow, replyOf, Call, reads, writes, advances, inserts, powers-up, no-more, then, CallsDemand3}
 
 module _ (E : Cipher) where
   -- ---- a refused call
@@ -87,6 +87,7 @@ module _ (E : Cipher) where
   call-follows s m c r (reads a n out left o h e) = (read-replied s a n out left (o .answer) (h .answered) e, h .left)
   call-follows s m c r (writes a bs t o h) = (replied s (write a bs) (o .answer) (h .answered), h .left)
   call-follows s m c r (advances k t o h) = (replied s (advance k) (o .answer) (h .answered), h .left)
+  call-follows s m c r (inserts k id t o h) = (replied s (insert k id) (o .answer) (h .answered), h .left)
   call-follows s m c r powers-up = powered s
 
   pub calls-follow : CallsFollow E

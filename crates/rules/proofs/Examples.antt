@@ -3,23 +3,27 @@ use Prim.Native.Nat.{ℕ}
 use mathlib.Core.Path.{_≡_, refl, ap}
 use native.Mathlib.Omega.{arith}
 use lib.Dec.{lit<}
-use Rattle.rules.specs.Bytes.{put, part, numberFrom, same, zeros, xor, all, byte}
+use Rattle.rules.specs.Bytes.{bytesOf, put, part, numberFrom, same, zeros, xor, all, byte}
 use Rattle.rules.specs.Map.{segments, publics, counter, flag, most, managements, segmentsAt, soundness, sound, registerNo, rows, liesIn, find, placeOf}
-use Rattle.rules.specs.Units.{unitBytes, bit, stageOf, modelOf, unitOf, nameOf, modelFits, formedness, wellFormed}
+use Rattle.rules.specs.Units.{unitBytes, bit, stageOf, keyStageOf, modelOf, unitOf, nameOf, modelFits, formedness, wellFormed}
+use Rattle.rules.specs.Hosts.{readers, hostAt, hostsFrom, mostHosts, hosts, any, repeats, slotId, slotKey, slotMask, misses, readable}
 use Rattle.rules.specs.State.{poweredUp, withRead, withWrite, withEdit, withName, withId, withPa, pinIndex, pin, owner, ownerIndex, guard, encipheredCounter, response}
-use Rattle.rules.specs.Refusals.{lowest, isNext, headerWriteChecks, segmentReadChecks, slotRefuses, segmentWriteChecks, unitReadChecks, isReceiver, pastStageZero, sameBool, keepsModel, editAllowed, editChecks, canAdvance, advanceChecks, plainChecks, responseChecks, nameChecks, commitChecks, registerChecks, readChecks, writeChecks}
-use Rattle.rules.specs.Effects.{apply, stored, readOnly, writeMove, advanced, advanceStores, registerStores, registerSession, writeStores, writeSession, refusalStores}
+use Rattle.rules.specs.Refusals.{lowest, isNext, headerWriteChecks, isSharedKey, hides, segmentReadChecks, slotRefuses, segmentWriteChecks, unitReadChecks, isReceiver, pastStageZero, sameBool, keepsModel, editAllowed, editChecks, canAdvance, advanceChecks, isFilling, isInserted, rowFits, listRefuses, insertChecks, plainChecks, responseChecks, nameChecks, commitChecks, registerChecks, readChecks, writeChecks}
+use Rattle.rules.specs.Effects.{apply, stored, readOnly, writeMove, advanced, advanceStores, joinedSlot, pairStores, joinStores, inserted, rowStore, insertStores, registerStores, registerSession, writeStores, writeSession, refusalStores}
 use Rattle.rules.specs.Command.{refusal, inPlace, checks, stores, storesIn, sessionIn, newSession, grant, replyBy, reply, after, afterBy}
 use Rattle.rules.specs.Run.{final, replies}
 use Rattle.rules.specs.Log.{kinds, kindIn, bodyLength, commandOf, wholeOf, first, parsed, parsedBy, commandsOf, readCode, encoded, encodedAll, roomFor, stopped, onward, carriedOut, runLog}
-use Rattle.rules.specs.Examples.{Hold, starred, stages, errors, NotEmpty, RepeatsChange, owed, tagWith, counterTag, eight, begin, naming, got, xorWrite, nameWrite, xorState, nameState}
+use Rattle.rules.specs.Examples.{Hold, starred, insertions, hostTag, hostId, stages, errors, NotEmpty, RepeatsChange, owed, tagWith, counterTag, eight, begin, naming, got, xorWrite, nameWrite, xorState, nameState}
 use Rattle.rules.specs.Readings.{readings, zeros16, counterOrder, modelThreeEdits, modelOneEdits, advanceOrder, coveredName, indexRules, registerRules, pinRules, whichKey, countFirst, shortTag, defaultModel, logRoom}
+use Rattle.rules.specs.Readings.{listing, insertOrder, whoseId, hiddenSlots, listedEdits, stageOneEdits, staleRows, threeHosts, badRows, hostReadings}
 
 -- all of them under one list of what is opened
 computed : Hold starred × Hold stages × Hold errors × Hold readings × NotEmpty × RepeatsChange
 unfolding part put numberFrom same zeros xor all segments publics counter flag most managements segmentsAt soundness
-    sound registerNo rows liesIn find placeOf unitBytes bit stageOf modelOf unitOf nameOf modelFits formedness
-    wellFormed poweredUp withRead withWrite withEdit withName withId withPa pinIndex ownerIndex guard pin owner
+    sound registerNo rows liesIn find placeOf unitBytes bit stageOf keyStageOf modelOf unitOf nameOf modelFits formedness
+    wellFormed readers hostAt hostsFrom mostHosts hosts any repeats slotId slotKey slotMask misses readable isSharedKey
+    hides isFilling isInserted rowFits listRefuses insertChecks joinedSlot pairStores joinStores inserted rowStore
+    insertStores poweredUp withRead withWrite withEdit withName withId withPa pinIndex ownerIndex guard pin owner
     encipheredCounter response lowest isNext headerWriteChecks segmentReadChecks slotRefuses segmentWriteChecks
     unitReadChecks isReceiver pastStageZero sameBool keepsModel editAllowed editChecks canAdvance advanceChecks
     plainChecks responseChecks nameChecks commitChecks registerChecks readChecks writeChecks apply stored
@@ -45,6 +49,36 @@ computed = (
     name-changes = λ e. let z : _≡_ {A = ℕ} 1 0 = ap (λ s. byte 12 (s .tag)) e in absurd (omega arith);
   },
 )
+
+-- what an insertion and the reads behind it open
+inserted-computed : Hold insertions
+unfolding part put numberFrom same zeros xor all segments publics flag most managements segmentsAt soundness sound
+    registerNo rows liesIn find placeOf unitBytes bit stageOf keyStageOf modelOf unitOf nameOf modelFits formedness
+    wellFormed readers hostAt hostsFrom mostHosts hosts any repeats slotId slotKey slotMask misses readable isSharedKey
+    hides isFilling isInserted rowFits listRefuses insertChecks joinedSlot pairStores joinStores inserted rowStore
+    insertStores poweredUp lowest segmentReadChecks slotRefuses segmentWriteChecks readChecks writeChecks apply stored
+    readOnly writeMove writeStores writeSession refusalStores inPlace checks refusal storesIn sessionIn stores newSession
+    grant replyBy reply afterBy after final replies begin got owed bytesOf insertions hostTag hostId
+inserted-computed = refl
+
+-- and the readings
+host-readings-computed : Hold hostReadings
+unfolding part put numberFrom same zeros xor all segments publics flag most managements segmentsAt soundness sound
+    registerNo rows liesIn find placeOf unitBytes bit stageOf keyStageOf modelOf unitOf nameOf modelFits formedness
+    wellFormed readers hostAt hostsFrom mostHosts hosts any repeats slotId slotKey slotMask misses readable isSharedKey
+    hides isFilling isInserted rowFits listRefuses insertChecks joinedSlot pairStores joinStores inserted rowStore
+    insertStores poweredUp lowest segmentReadChecks slotRefuses segmentWriteChecks unitReadChecks isReceiver pastStageZero
+    sameBool keepsModel editAllowed editChecks readChecks writeChecks apply stored readOnly writeMove writeStores
+    writeSession refusalStores inPlace checks refusal storesIn sessionIn stores newSession grant replyBy reply afterBy after
+    final replies begin got owed bytesOf tagWith hostTag hostId listing insertOrder whoseId hiddenSlots listedEdits
+    stageOneEdits staleRows threeHosts badRows hostReadings plainChecks registerChecks registerStores registerSession withId
+host-readings-computed = refl
+
+pub host-readings-hold : Hold hostReadings
+host-readings-hold = host-readings-computed
+
+pub insertions-hold : Hold insertions
+insertions-hold = inserted-computed
 
 pub starred-hold : Hold starred
 starred-hold = computed .0

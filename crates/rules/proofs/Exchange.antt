@@ -12,23 +12,23 @@ use Rattle.rules.specs.declared.Session.{Session}
 use Rattle.rules.specs.declared.Model.the-variants.{WriteOnce, Counter}
 use Rattle.rules.specs.declared.Place.{Place}
 use Rattle.rules.specs.declared.Place.the-variants.{Segment, UnitOf, Public}
-use Rattle.rules.specs.Bytes.{put, part}
+use Rattle.rules.specs.Bytes.{put, part, Apart}
 use Rattle.rules.specs.Map.{sound, segments, publics, placeOf, unitAt, segmentAt}
 use Rattle.rules.specs.Units.{unitBytes, unitOf}
+use Rattle.rules.specs.Hosts.{hosts, readers}
 use Rattle.rules.specs.State.{Cipher, State}
 use Rattle.rules.specs.Refusals.{readChecks, writeChecks, lowest}
 use Rattle.rules.specs.Effects.{Store, _↤_, apply, writeStores}
-use Rattle.rules.specs.Command.{read, write, refusal, Command, checks, inPlace, stores, storesIn, grant, reply, replyBy, after, advance, powerUp, Reply}
+use Rattle.rules.specs.Command.{read, write, refusal, Command, checks, inPlace, stores, storesIn, grant, reply, replyBy, after, advance, insert, powerUp, Reply}
 use Rattle.rules.specs.Run.{replies, final}
 use Rattle.rules.specs.Demand3.{Inside, MayChangePlaces, two-segments, two-slots, slot, SameEitherWay}
-use Rattle.rules.specs.Claims.{Holds}
+use Rattle.rules.specs.Claims.{Holds, NoInsertion}
 use Rattle.rules.proofs.Tests.{lowest-under}
-use Rattle.rules.proofs.BytesLaws.{Apart}
 use Rattle.rules.proofs.StoreLaws.{Off, Each, apply-put, apply-part, each-map}
 use Rattle.rules.proofs.MapLaws.{sound-facts, sound-long}
 use Rattle.rules.proofs.Places.{Numbered, place-found, controlled, open-to-all, sort, placed, places-apart, unit-holds, other-sort, numbered, segment-holds}
 use Rattle.rules.proofs.Grants.{madeBy, granted-write, after-tag}
-use Rattle.rules.proofs.Lawful.{sound-stays, stores-off, Lawful, LawfulAt, to-counter, to-flag, to-pin, to-bytes, to-unit}
+use Rattle.rules.proofs.Lawful.{sound-stays, stores-off, Lawful, LawfulAt, to-counter, to-flag, to-pin, to-bytes, to-unit, to-list, to-host}
 use Rattle.rules.proofs.Segments.{Ranged, a-read, a-write, made-lawful, after-is}
 
 -- ---- two lists of stores that touch nothing in common
@@ -49,6 +49,7 @@ record Looks (t u : List ℕ) (p : Place) (a n : ℕ) : Type 0 where
   same-segments : segments u ≡ segments t
   same-publics : publics u ≡ publics t
   same-part : part a n u ≡ part a n t
+  same-readers : part 8192 4096 u ≡ part 8192 4096 t
   same-unit : (k : ℕ) → p ≡ Segment k → unitBytes u k ≡ unitBytes t k
 
 module _ (E : Cipher) (v : Session) (t u : List ℕ) (k a n : ℕ) (p : Place) (num : Numbered (segments t) (publics t) k p)
@@ -65,9 +66,13 @@ module _ (E : Cipher) (v : Session) (t u : List ℕ) (k a n : ℕ) (p : Place) (
       let f = place-found t p a n (sound-facts t (l .whole) .most-segments) b h in
       (f, rw (l .same-segments, l .same-publics) f)
 
+  same-hosts : hosts u ≡ hosts t
+  unfolding hosts readers
+  same-hosts = rw (l .same-readers)
+
   read-same : (q : Place) → q ≡ p → Numbered (segments t) (publics t) k q → readChecks two q a n ≡ readChecks one q a n
   unfolding readChecks
-  read-same q e (controlled g) = rw (l .same-unit k (sym e))
+  read-same q e (controlled g) = rw (l .same-unit k (sym e), l .same-segments, same-hosts)
   read-same q e (open-to-all m f g) = refl
 
   write-same : (q : Place) → q ≡ p → Numbered (segments t) (publics t) k q → (bs : List ℕ) → length bs ≡ n
@@ -128,6 +133,15 @@ record Separate (t : List ℕ) (p : Place) (a n : ℕ) (q : Place) (x m : ℕ) :
   units : (k l : ℕ) → p ≡ Segment k → q ≡ Segment l → unitOf (unitBytes t k) .model ≡ WriteOnce
       → Apart (unitAt k) 1 (unitAt l) 32
 
+sort-above : (A P k : ℕ) (p : Place) → Numbered A P k p → 5 ≤ sort p
+sort-above A P k p (controlled h) = omega arith
+sort-above A P k p (open-to-all l e h) = omega arith
+
+-- a read or write is no insertion
+no-insertion : {a n : ℕ} (c : Command) → Ranged a n c → NoInsertion c
+no-insertion c (a-read room) = tt
+no-insertion c (a-write bs e) = tt
+
 -- so the second looks at the same after the first
 separate-looks : (E : Cipher) (s : State) (k a n : ℕ) (p : Place) (c : Command) (q : Place) (x m : ℕ)
     → sound (s .tag) ≡ true
@@ -138,34 +152,41 @@ separate-looks E s k a n p c q x m w i b z =
     let ss = madeBy (refusal E s c) E s c in
     let f = made-lawful E s k a n p w (i .number-is) (i .held) c (i .ranged) in
     let e = after-tag E s c (refusal E s c) refl in
+    let o = sort-above _ _ k p (i .number-is) in
     record {
       whole = w;
       still-whole = g .stays-sound;
       same-segments = g .same-segments;
       same-publics = g .same-publics;
       same-part =
-          ap (part x m) e ∙ apply-part x m ss (s .tag) (stores-off (s .tag) p a n ss x m f b (z .range) (λ j r o. z .unit-range j r));
+          ap (part x m) e ∙ apply-part x m ss (s .tag) (stores-off (s .tag) p a n ss x m f b (z .range) (λ j r y. z .unit-range j r) (λ q. absurd (omega (arith, o, q))));
+      same-readers = g .readers-stay (λ q. no-insertion c (i .ranged));
       same-unit = λ l r.
           ap (part (unitAt l) 32) e
           ∙ apply-part (unitAt l) 32 ss (s .tag)
-          (stores-off (s .tag) p a n ss (unitAt l) 32 f (omega arith) (z .range-unit l r) (λ j r′ o. z .units j l r′ r o));
+          (stores-off (s .tag) p a n ss (unitAt l) 32 f (omega arith) (z .range-unit l r) (λ j r′ y. z .units j l r′ r y) (λ q. absurd (omega (arith, o, q))));
     }
 
 -- and their stores touch nothing in common
 stores-apart : (t : List ℕ) (a n x m : ℕ) (p q : Place) (rs ss : List Store) → Each (Lawful t p a n) rs
     → Each (Lawful t q x m) ss
-    → 5 ≤ sort q → unitAt 0 ≤ x → Separate t p a n q x m → Each (OffStores rs) ss
-stores-apart t a n x m p q rs ss f g o b z = each-map (Lawful t q x m) (OffStores rs) ss at-each g
+    → 5 ≤ sort p → 5 ≤ sort q → unitAt 0 ≤ x → Separate t p a n q x m → Each (OffStores rs) ss
+stores-apart t a n x m p q rs ss f g s o b z = each-map (Lawful t q x m) (OffStores rs) ss at-each g
   where
+    no-list : {A : Type 0} → sort p ≡ 4 → A
+    no-list e = absurd (omega arith)
+
     at-each : (y : ℕ) (ys : List ℕ) → LawfulAt t q x m y ys → Each (Off y (length ys)) rs
     at-each y ys (to-counter h e d) = absurd (omega arith)
     at-each y ys (to-flag h v i e d) = absurd (omega arith)
     at-each y ys (to-pin h i u v e d) = absurd (omega arith)
     at-each y ys (to-bytes h e d) =
-        rw (e, d) (stores-off t p a n rs x m f b (z .range) (λ j r o. z .unit-range j r))
+        rw (e, d) (stores-off t p a n rs x m f b (z .range) (λ j r o. z .unit-range j r) no-list)
+    at-each y ys (to-list h b e) = absurd (omega arith)
+    at-each y ys (to-host h b j g e d) = absurd (omega arith)
     at-each y ys (to-unit j r u e d) =
         rw (e, d) (stores-off t p a n rs (unitAt j) 1 f (omega arith) (λ i b c d e. z .range-unit j r i b c d (omega arith))
-        (λ h r′ o i b c d e. z .units h j r′ r o i b c d (omega arith)))
+        (λ h r′ o i b c d e. z .units h j r′ r o i b c d (omega arith)) no-list)
 
 -- the second command after the first: its answer and its stores are those that it has without the first
 module _ (E : Cipher) (s : State) (k a n l x m : ℕ) (p q : Place) (c d : Command) (w : sound (s .tag) ≡ true)
@@ -202,10 +223,6 @@ record Exchanged (E : Cipher) (s : State) (c d : Command) : Type 0 where
   first : reply E (after E s d) c ≡ reply E s c
   same-end : after E (after E s c) d ≡ after E (after E s d) c
 
-sort-above : (A P k : ℕ) (p : Place) → Numbered A P k p → 5 ≤ sort p
-sort-above A P k p (controlled h) = omega arith
-sort-above A P k p (open-to-all l e h) = omega arith
-
 inner-above : (t : List ℕ) (k a n : ℕ) (p : Place) → sound t ≡ true → Numbered (segments t) (publics t) k p
     → Holds t p a n → unitAt 0 ≤ a
 inner-above t k a n p w (controlled h) g = let x = placed t p a n w g in let y = sound-long t w .0 in omega arith
@@ -220,7 +237,8 @@ exchanged E s c d k a n l x m p q w i j z z′ =
     let above-d = inner-above (s .tag) l x m q w (j .number-is) (j .held) in
     let off = stores-apart (s .tag) a n x m p q (madeBy (refusal E s c) E s c) (madeBy (refusal E s d) E s d)
     (made-lawful E s k a n p w (i .number-is) (i .held) c (i .ranged))
-    (made-lawful E s l x m q w (j .number-is) (j .held) d (j .ranged)) (sort-above _ _ l q (j .number-is)) above-d z in
+    (made-lawful E s l x m q w (j .number-is) (j .held) d (j .ranged)) (sort-above _ _ k p (i .number-is))
+    (sort-above _ _ l q (j .number-is)) above-d z in
     record {
       second = answers-alike E s k a n l x m p q c d w i j above-d z;
       first = answers-alike E s l x m k a n q p d c w j i above-c z′;
@@ -291,6 +309,7 @@ inside-range : (t : List ℕ) (k : ℕ) (c : Command) → Inside t k c
 inside-range t k (read a n room) h = (a, n, a-read room, h .1, h .2, h .0)
 inside-range t k (write a bs) h = (a, length bs, a-write bs refl, h .1, h .2, h .0)
 inside-range t k (advance n) h = absurd h
+inside-range t k (insert n id) h = absurd h
 inside-range t k powerUp h = absurd h
 
 exchange : (E : Cipher) (s : State) (c d : Command) → sound (s .tag) ≡ true → MayChangePlaces (s .tag) c d

@@ -1,31 +1,33 @@
 -- A host that knows the PIN reads after four commands: PA, counter, READ, read. What each of them leaves.
 use Prim.Native.Nat.{ℕ, _+_, _≤_, _<_}
-use mathlib.Core.Path.{_≡_, refl, ap, _∙_}
-use mathlib.Core.Bool.{Bool, true, false, _&&_, not}
+use mathlib.Core.Path.{_≡_, refl, sym, ap, _∙_}
+use mathlib.Core.Bool.{true, false, not}
 use mathlib.Core.List.{List, [], _∷_, _++_}
 use mathlib.Core.Option.{none, some}
 use native.Mathlib.Omega.{arith}
 use lib.ListN.{length, replicate, length-append}
-use lib.Dec.{eqb}
 use borrow.Author.Tests.{leb-true, eq-eqb, ne-eqb, le-leb, le-ltb}
 use Rattle.rules.specs.declared.Session.{Session}
+use Rattle.rules.specs.declared.Model.{Model}
 use Rattle.rules.specs.declared.Register.the-variants.{Pa, Read}
 use Rattle.rules.specs.declared.Place.{Place}
-use Rattle.rules.specs.declared.Place.the-variants.{RegisterOf, Header, Segment}
+use Rattle.rules.specs.declared.Place.the-variants.{RegisterOf, Header}
 use Rattle.rules.specs.Bytes.{put, number, same, part, bytesOf}
 use Rattle.rules.specs.Map.{sound, placeOf, segments, registerAt, registerNo, counter, flag, segmentAt, unitAt, pinAt}
 use Rattle.rules.specs.Units.{wellFormed, unitBytes, unitOf, formedness}
+use Rattle.rules.specs.Hosts.{Host}
 use Rattle.rules.specs.State.{Cipher, State, withPa, pin, pinIndex, response, withRead, encipheredCounter}
-use Rattle.rules.specs.Refusals.{lowest, writeChecks, registerChecks, plainChecks, headerWriteChecks, isNext, responseChecks, readChecks, segmentReadChecks}
+use Rattle.rules.specs.Refusals.{lowest, writeChecks, registerChecks, plainChecks, headerWriteChecks, isNext, responseChecks, isSharedKey, hides}
 use Rattle.rules.specs.Effects.{apply, writeStores, writeSession, registerStores, registerSession}
 use Rattle.rules.specs.Command.{write, refusal, checks, inPlace, done, reply, after, replyBy, afterBy, grant, stores, storesIn, newSession, sessionIn, read, gives}
 use Rattle.rules.specs.Run.{replies}
 use Rattle.rules.specs.Claims.{Holds}
 use Rattle.rules.specs.FourCommands.{HostReads, fourCommands}
-use Rattle.rules.proofs.Tests.{clears, none-applies, all-true}
+use Rattle.rules.proofs.Tests.{true-false, clears, none-applies, all-true}
 use Rattle.rules.proofs.BytesLaws.{same-refl, byte-put, length-put, part-put, part-put-same, length-bytesOf, number-bytesOf, part-front}
 use Rattle.rules.proofs.MapLaws.{sound-facts, sound-long, sound-flag, sound-put, segments-put}
-use Rattle.rules.proofs.Places.{place-found, register-holds, header-holds, segment-holds, controlled}
+use Rattle.rules.proofs.Places.{place-found, register-holds, header-holds}
+use Rattle.rules.proofs.GrantedRead.{rights, segment-read}
 
 -- ---- a write that no check refuses
 
@@ -94,38 +96,10 @@ read-validated E s bs i w l f q m e =
 
 -- ---- 4. the read
 
-rights : (s : State) (k a n : ℕ) → wellFormed (unitBytes (s .tag) k) ≡ true → unitOf (unitBytes (s .tag) k) .rd ≡ true
-    → unitOf (unitBytes (s .tag) k) .pn ≡ false → s .session .read ≡ unitOf (unitBytes (s .tag) k) .read
-    → lowest (readChecks s (Segment k) a n) ≡ none
-unfolding readChecks segmentReadChecks
-rights s k a n f r p i =
-    clears _ _ _ (ap not f) (clears _ _ _ (ap not r) (clears _ (unitOf (unitBytes (s .tag) k) .rdpin && _) _ index
-    (clears _ _ _ (rw p) none-applies)))
-  where
-    and-no : (b : Bool) → (b && false) ≡ false
-    and-no true = refl
-    and-no false = refl
-
-    index : (unitOf (unitBytes (s .tag) k) .rdpin && not (eqb (s .session .read) (unitOf (unitBytes (s .tag) k) .read))) ≡ false
-    index = ap (λ b. unitOf (unitBytes (s .tag) k) .rdpin && not b) (eq-eqb _ _ i) ∙ and-no (unitOf (unitBytes (s .tag) k) .rdpin)
-
-read-granted : (E : Cipher) (s : State) (k a n room : ℕ) → sound (s .tag) ≡ true → k < segments (s .tag) → 1 ≤ n
-    → n ≤ room
-    → segmentAt (segments (s .tag)) k ≤ a → a + n ≤ segmentAt (segments (s .tag)) k + 4096
-    → lowest (readChecks s (Segment k) a n) ≡ none → reply E s (read a n room) ≡ gives (part a n (s .tag))
-unfolding reply replyBy grant
-read-granted E s k a n room w h l o b c e = rw free
-  where
-    found : placeOf (s .tag) a n ≡ some (Segment k)
-    found =
-        place-found (s .tag) (Segment k) a n (sound-facts (s .tag) w .most-segments) l
-        (segment-holds (s .tag) k a n (Segment k) (controlled h) b c)
-
-    free : refusal E s (read a n room) ≡ none
-    free =
-        unfold refusal checks inPlace in
-        clears _ _ _ (ap not w) (clears _ _ _ (ne-eqb n 0 (omega arith)) (clears _ _ _ (le-ltb 4096 n (omega arith))
-        (clears _ _ _ (le-ltb room n o) (rw found e))))
+-- the list of hosts hides nothing of the other models
+not-hidden : (m : Model) (k o n : ℕ) (hs : List Host) → isSharedKey m ≡ false → hides m k o n hs ≡ false
+unfolding hides
+not-hidden m k o n hs e = rw e
 
 -- ---- the tag after the counter, and after READ
 
@@ -149,20 +123,22 @@ away next t a n l h =
 fourth : (E : Cipher) (t next : List ℕ) (v : Session) (k a n room : ℕ) → sound t ≡ true → length next ≡ 8
     → k < segments t
     → wellFormed (unitBytes t k) ≡ true → unitOf (unitBytes t k) .rd ≡ true → unitOf (unitBytes t k) .pn ≡ false
+    → isSharedKey (unitOf (unitBytes t k) .model) ≡ false
     → v .read ≡ unitOf (unitBytes t k) .read
     → 1 ≤ n → n ≤ room → segmentAt (segments t) k ≤ a → a + n ≤ segmentAt (segments t) k + 4096
     → reply E (record { tag = put 12 (1 ∷ []) (countedUp next t); session = v }) (read a n room) ≡ gives (part a n t)
 unfolding unitBytes
-fourth E t next v k a n room w ln h f r p i l o b c =
+fourth E t next v k a n room w ln h f r p m i l o b c =
     let g = sound-long t w .0 in
     let t3 = put 12 (1 ∷ []) (countedUp next t) in
     let segs : segments t3 ≡ segments t =
     segments-put 12 (1 ∷ []) (countedUp next t) (omega arith) ∙ segments-put 12 (0 ∷ []) (put 4 next t) (omega arith)
     ∙ segments-put 4 next t (omega arith) in
     let u : unitBytes t3 k ≡ unitBytes t k = away next t (unitAt k) 32 ln (omega arith) .1 in
-    read-granted E (record { tag = t3; session = v }) k a n room
+    segment-read E (record { tag = t3; session = v }) k a n room
     (sound-flag 1 (countedUp next t) (omega arith) (counter-facts next t w ln .0)) (rw segs h) l o (rw segs b) (rw segs c)
-    (rights (record { tag = t3; session = v }) k a n (rw u f) (rw u r) (rw u p) (rw u i))
+    (rights (record { tag = t3; session = v }) k a n (rw u f) (rw u r) (not-hidden _ k _ n _ (rw u m))
+    (record { its-index = λ q. rw u i; its-name = λ q. true-false (sym q ∙ rw u p) }))
     ∙ ap gives (away next t a n ln (omega arith) .1)
 
 -- ---- the four commands
@@ -173,7 +149,7 @@ index-small u e = leb-true _ _ (all-true _ _ (all-true _ _ (all-true _ _ e .1) .
 
 pub host-reads : HostReads
 unfolding replies fourCommands
-host-reads E long s k a n room rest w cb h f r p l o b c lr =
+host-reads E long s k a n room rest w cb h f r p m l o b c lr =
     let t = s .tag in
     let i = unitOf (unitBytes t k) .read in
     let small : i ≤ 255 = index-small (unitBytes t k) f in
@@ -191,7 +167,7 @@ host-reads E long s k a n room rest w cb h f r p l o b c lr =
     (answered i next ln (x .2)) in
     rw (c1 .0, c1 .1, c2 .0, c2 .1, c3 .0, c3 .1)
     (ap (λ z. done ∷ done ∷ done ∷ z ∷ [])
-    (fourth E t next (withRead i (withPa pa (s .session))) k a n room w ln h f r p (unfold withRead in refl) l o b c))
+    (fourth E t next (withRead i (withPa pa (s .session))) k a n room w ln h f r p m (unfold withRead in refl) l o b c))
   where
     sixteen : (key next : List ℕ) → length next ≡ 8 → length (encipheredCounter E key next) ≡ 16
     sixteen key next e =

@@ -6,6 +6,10 @@ pub mod MapLaws
 pub mod Places
 pub mod Grants
 pub mod GrantedRead
+pub mod HostsLaws
+pub mod HostList
+pub mod SlotPairs
+pub mod HostUnits
 pub mod Lawful
 pub mod Locked
 pub mod Slots
@@ -25,4 +29,7 @@ pub mod RunLaws
 pub mod Runs
 pub mod Told
 pub mod CCalls
+pub mod SharedKeys
+pub mod SharedReads
+pub mod KeptKeys
 pub mod Theorems

@@ -1,31 +1,34 @@
 -- A locked unit changes only by its model's own moves.
-use Prim.Native.Nat.{ℕ, _<_}
+use Prim.Native.Nat.{ℕ, _+_, _*_, _<_}
 use mathlib.Core.Path.{_≡_, refl, sym, ap, subst, _∙_}
 use mathlib.Core.Logic.{_≢_, _⊎_, inl, inr}
 use mathlib.Core.Bool.{true}
-use mathlib.Core.List.{List, [], _∷_}
+use mathlib.Core.List.{List, [], _∷_, _++_}
 use mathlib.Core.Option.{Option, none, some}
 use native.Mathlib.Omega.{arith}
 use native.Mathlib.Decide.{ℕ-discrete}
 use lib.ListN.{length}
 use Rattle.rules.specs.declared.Model.{Model}
-use Rattle.rules.specs.declared.Model.the-variants.{Default, WriteOnce, Counter, Receiver}
+use Rattle.rules.specs.declared.Model.the-variants.{Default, WriteOnce, Counter, Receiver, SharedKey}
 use Rattle.rules.specs.declared.Place.{Place}
 use Rattle.rules.specs.declared.Place.the-variants.{Segment, UnitOf}
-use Rattle.rules.specs.Bytes.{put, part, byte}
+use Rattle.rules.specs.Bytes.{put, part, byte, bytesOf, Apart}
 use Rattle.rules.specs.Map.{unitAt, sound, segments, placeOf}
 use Rattle.rules.specs.Units.{unitOf, unitBytes}
+use Rattle.rules.specs.Hosts.{hosts}
 use Rattle.rules.specs.State.{Cipher, State}
 use Rattle.rules.specs.Refusals.{canAdvance, lowest, writeChecks}
-use Rattle.rules.specs.Effects.{Store, apply, _↤_, writeMove, readOnly, advanceStores, advanced, writeStores}
-use Rattle.rules.specs.Command.{write, read, advance, Command, refusal, stores, powerUp, after}
+use Rattle.rules.specs.Effects.{Store, apply, _↤_, writeMove, readOnly, advanceStores, advanced, rowStore, inserted, insertStores, writeStores}
+use Rattle.rules.specs.Command.{write, read, advance, insert, Command, refusal, stores, powerUp, after}
 use Rattle.rules.specs.Claims.{ownMove, OwnMover, LockedUnit}
 use Rattle.rules.proofs.Tests.{true-false}
-use Rattle.rules.proofs.BytesLaws.{Apart, part-put, part-put-start}
+use Rattle.rules.proofs.BytesLaws.{part-put, part-put-start}
 use Rattle.rules.proofs.StoreLaws.{Each, Off, apply-part}
 use Rattle.rules.proofs.Places.{places-apart, place-holds, unit-holds, other-sort, at-segment}
 use Rattle.rules.proofs.Grants.{edit-refused, madeBy, granted-write, stores-write, advance-facts, after-tag}
-use Rattle.rules.proofs.Lawful.{length-stored, write-off, advance-off, refusal-off}
+use Rattle.rules.proofs.MapLaws.{sound-long}
+use Rattle.rules.proofs.HostsLaws.{Inserting, insert-facts, apply-append}
+use Rattle.rules.proofs.Lawful.{length-stored, write-off, advance-off, insert-off, refusal-off, pairsOf, pairs-off, row-end}
 
 -- what is to hold of the unit u before and w after; M says when the model may move
 abbrev Moves : Type 0 → List ℕ → List ℕ → Type 0
@@ -51,6 +54,7 @@ segment-moves M o t k a ys WriteOnce e h =
     )
 segment-moves M o t k a ys Counter e h = inl (part-put (unitAt k) 32 a ys t h)
 segment-moves M o t k a ys (Receiver g) e h = inl (part-put (unitAt k) 32 a ys t h)
+segment-moves M o t k a ys (SharedKey g) e h = inl (part-put (unitAt k) 32 a ys t h)
 
 -- an advance of the segment
 advance-moves : (M : Type 0) → M → (t : List ℕ) (k : ℕ) (m : Model) → unitOf (unitBytes t k) .model ≡ m → canAdvance m ≡ true
@@ -61,6 +65,30 @@ advance-moves M o t k WriteOnce e h = true-false (sym h)
 advance-moves M o t k Counter e h = true-false (sym h)
 advance-moves M o t k (Receiver g) e h =
     inr (o, rw e (part-put-start (unitAt k) 32 (advanced (Receiver g) (part (unitAt k) 32 t)) t))
+advance-moves M o t k (SharedKey g) e h = true-false (sym h)
+
+-- the insertion of its host: all stores but the last are elsewhere
+pub unit-inserted : (t : List ℕ) (k : ℕ) (id : List ℕ) → sound t ≡ true → Inserting t k id
+    → unitBytes (apply (insertStores t k id) t) k ≡ put 0 (inserted (unitBytes t k)) (unitBytes t k)
+unfolding unitBytes insertStores rowStore apply
+unit-inserted t k id w f =
+    ap (part (unitAt k) 32) (apply-append (pairsOf t k id) _ t)
+    ∙ part-put-start (unitAt k) 32 (inserted (part (unitAt k) 32 t)) _
+    ∙ ap (put 0 (inserted (part (unitAt k) 32 t))) before
+  where
+    before : part (unitAt k) 32 (put (8192 + 18 * length (hosts t)) (id ++ bytesOf 2 (k + 1)) (apply (pairsOf t k id) t))
+        ≡ part (unitAt k) 32 t
+    before =
+        let e = row-end t k id f in
+        let g = sound-long t w .0 in
+        let h = f .there in
+        part-put (unitAt k) 32 (8192 + 18 * length (hosts t)) (id ++ bytesOf 2 (k + 1)) (apply (pairsOf t k id) t) (omega arith)
+        ∙ apply-part (unitAt k) 32 (pairsOf t k id) t (pairs-off t k id (unitAt k) 32 w f (omega arith) (λ l x. omega arith))
+
+insert-moves : (M : Type 0) → M → (t : List ℕ) (k : ℕ) (id : List ℕ) → sound t ≡ true → Inserting t k id
+    → Moves M (unitBytes t k) (unitBytes (apply (insertStores t k id) t) k)
+unfolding ownMove
+insert-moves M o t k id w f = inr (o, rw (f .filling) (unit-inserted t k id w f))
 
 module _ (E : Cipher) (s : State) (k : ℕ) (w : sound (s .tag) ≡ true) (there : k < segments (s .tag))
     (locked : unitOf (unitBytes (s .tag) k) .ne ≡ true) where
@@ -94,6 +122,16 @@ module _ (E : Cipher) (s : State) (k : ℕ) (w : sound (s .tag) ≡ true) (there
   advance-by m r (no q) e =
       beside (Moved (advance m)) (s .tag) k _ (advance-off (s .tag) m (unitAt k) 32 (omega arith) (omega arith))
 
+  insert-by : (m : ℕ) (id : List ℕ) → refusal E s (insert m id) ≡ none → Dec (m ≡ k) → Inserting (s .tag) m id
+      → Moves (Moved (insert m id)) (unitBytes (s .tag) k) (unitBytes (apply (insertStores (s .tag) m id) (s .tag)) k)
+  insert-by m id r (yes q) f =
+      subst (λ i. Moves (Moved (insert m id)) (unitBytes (s .tag) k) (unitBytes (apply (insertStores (s .tag) i id) (s .tag)) k)) (sym q)
+      (insert-moves (Moved (insert m id)) (q, r) (s .tag) k id w (subst (λ i. Inserting (s .tag) i id) q f))
+  insert-by m id r (no q) f =
+      let g = sound-long (s .tag) w .0 in
+      beside (Moved (insert m id)) (s .tag) k _
+      (insert-off (s .tag) m id (unitAt k) 32 w f (omega arith) (omega arith) (λ l h. let x = h .there in omega arith))
+
   made-moves : (c : Command) (r : Option ℕ) → refusal E s c ≡ r
       → Moves (Moved c) (unitBytes (s .tag) k) (unitBytes (apply (madeBy r E s c) (s .tag)) k)
   unfolding madeBy stores
@@ -104,6 +142,7 @@ module _ (E : Cipher) (s : State) (k : ℕ) (w : sound (s .tag) ≡ true) (there
       rw (stores-write E s a bs (g .place) (g .found))
       (write-moves a bs (g .place) (g .found) e (g .free) (at-segment k (g .place)))
   made-moves (advance m) none e = advance-by m e (ℕ-discrete m k) (advance-facts E s m e .1)
+  made-moves (insert m id) none e = insert-by m id e (ℕ-discrete m k) (insert-facts E s m id e)
   made-moves powerUp none e = beside (Moved powerUp) (s .tag) k [] tt
 
 pub locked-unit : (E : Cipher) (s : State) (k : ℕ) (c : Command) → sound (s .tag) ≡ true → k < segments (s .tag)

@@ -6,11 +6,11 @@ use mathlib.Core.List.{List, [], _∷_}
 use native.Mathlib.Omega.{arith}
 use lib.ListN.{length}
 use borrow.Author.Tests.{leb-true, eqb-true, eq-eqb, le-leb}
-use Rattle.rules.specs.Bytes.{zeros, part, put, number}
+use Rattle.rules.specs.Bytes.{zeros, part, put, number, Apart}
 use Rattle.rules.specs.Map.{most, unitAt, segmentsAt, segments, managements, segmentAt, publics, flag, pinAt, sound, soundness}
 use Rattle.rules.specs.Claims.{Sizes}
 use Rattle.rules.proofs.Tests.{all-true, all-and, all-none}
-use Rattle.rules.proofs.BytesLaws.{Apart, part-put, byte-put-out, byte-put, length-put}
+use Rattle.rules.proofs.BytesLaws.{part-put, byte-put-out, byte-put, length-put}
 
 -- where the segments begin: behind the units, with a spare place of at most 4,096 bytes between, and at a multiple of
 -- 4,096; 128 units end just there

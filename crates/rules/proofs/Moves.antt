@@ -1,5 +1,5 @@
 -- What a model's own move does to the bits of its unit; and what power-up does to the session.
-use Prim.Native.Nat.{ℕ, zero, suc, _+_, _/_, _%_, _^_, _<_}
+use Prim.Native.Nat.{ℕ, _+_, _*_, _/_, _%_, _^_, _<_}
 use mathlib.Core.Path.{_≡_, refl, sym, ap, _∙_}
 use mathlib.Core.Logic.{_≢_}
 use mathlib.Core.Bool.{true, false}
@@ -38,27 +38,36 @@ clear-bit i b e = rw e
 
 -- ---- the two high bits, by the quotient q of the byte and 32
 
-high-bits : (q : ℕ) → q < 8 → q % 2 ≡ 1 → q / 4 % 2 ≡ 0 → ((q + 3) / 4 % 2 ≡ 1) × ((q + 3) / 2 % 2 ≡ q / 2 % 2)
-high-bits zero l e f = absurd (omega arith)
-high-bits (suc zero) l e f = (refl, refl)
-high-bits (suc (suc zero)) l e f = absurd (omega arith)
-high-bits (suc (suc (suc zero))) l e f = (refl, refl)
-high-bits (suc (suc (suc (suc q)))) l e f = absurd (omega arith)
+odd-next : (a : ℕ) → a % 2 ≡ 0 → (a + 1) % 2 ≡ 1
+odd-next a e = omega arith
 
-moved-digits : (b : ℕ) → b < 256 → b / 32 % 2 ≡ 1 → b / 128 % 2 ≡ 0
+high-bits : (q : ℕ) → q % 2 ≡ 1 → q / 4 % 2 ≡ 0 → ((q + 3) / 4 % 2 ≡ 1) × ((q + 3) / 2 % 2 ≡ q / 2 % 2)
+high-bits q e f =
+    let a = q / 4 in
+    let r = q % 4 in
+    let odd : r % 2 ≡ 1 = omega arith in
+    let small : r < 4 = omega arith in
+    let up : (q + 3) / 4 ≡ a + 1 = omega arith in
+    let half : q / 2 ≡ 2 * a + r / 2 = omega arith in
+    let half-up : (q + 3) / 2 ≡ 2 * a + (r / 2 + 2) = omega arith in
+    let x : (a + 1) % 2 ≡ 1 = odd-next a f in
+    let y : (2 * a + (r / 2 + 2)) % 2 ≡ (2 * a + r / 2) % 2 = omega arith in
+    (ap (λ n. n % 2) up ∙ x, ap (λ n. n % 2) half-up ∙ y ∙ sym (ap (λ n. n % 2) half))
+
+moved-digits : (b : ℕ) → b / 32 % 2 ≡ 1 → b / 128 % 2 ≡ 0
     → ((b + 96) / 128 % 2 ≡ 1) × ((b + 96) / 64 % 2 ≡ b / 64 % 2)
-moved-digits b l e f =
+moved-digits b e f =
     let c : b / 128 ≡ b / 32 / 4 = omega arith in
     let d : b / 64 ≡ b / 32 / 2 = omega arith in
     let g : (b + 96) / 128 ≡ (b / 32 + 3) / 4 = omega arith in
     let h : (b + 96) / 64 ≡ (b / 32 + 3) / 2 = omega arith in
-    let x = high-bits (b / 32) (omega arith) e (sym (ap (λ q. q % 2) c) ∙ f) in
+    let x = high-bits (b / 32) e (sym (ap (λ q. q % 2) c) ∙ f) in
     (ap (λ q. q % 2) g ∙ x .0, ap (λ q. q % 2) h ∙ x .1 ∙ sym (ap (λ q. q % 2) d))
 
-read-only-bits : (b : ℕ) → b < 256 → bit 7 b ≡ false → bit 5 b ≡ true
+pub read-only-bits : (b : ℕ) → bit 7 b ≡ false → bit 5 b ≡ true
     → bits (b + 96) ≡ true ∷ bit 6 b ∷ false ∷ bit 4 b ∷ bit 3 b ∷ bit 2 b ∷ bit 1 b ∷ bit 0 b ∷ []
-read-only-bits b l r w =
-    let x = moved-digits b l (bit-set 5 b w) (bit-clear 7 b r) in
+read-only-bits b r w =
+    let x = moved-digits b (bit-set 5 b w) (bit-clear 7 b r) in
     let e = bit-set 5 b w in
     rw (
       set-bit 7 (b + 96) (x .0),
@@ -89,10 +98,10 @@ read-only-bits b l r w =
     none : (b + 96) / 1 % 2 ≡ b / 1 % 2
     none = omega arith
 
-pub moves-exact : (b : ℕ) → b < 256 → MovesExact b
-moves-exact b l =
+pub moves-exact : (b : ℕ) → MovesExact b
+moves-exact b =
     record {
-      bits-moved = λ r w. ap bits (is-more (bit-set 5 b w)) ∙ read-only-bits b l r w;
+      bits-moved = λ r w. ap bits (is-more (bit-set 5 b w)) ∙ read-only-bits b r w;
       stage-up = omega arith;
       model-stays = omega arith;
     }

@@ -11,12 +11,12 @@ use native.Mathlib.Omega.{arith}
 use native.Mathlib.Nat.{mul-comm, div-lt-iff-lt-mul, mul-le-mul-left, mul-suc, mul-div-le, lt-mul-div-succ, div-eq-of-lt-le}
 use native.Mathlib.Decide.{ℕ-discrete, decLe}
 use borrow.Author.Tests.{leb-true, leb-false, ltb-true, ltb-false, le-leb, lt-ltb}
+use Rattle.rules.specs.Bytes.{Apart}
 use Rattle.rules.specs.declared.Place.{Place}
 use Rattle.rules.specs.declared.Place.the-variants.{Header, Hidden, RegisterOf, Pins, Readers, UnitOf, Spare, Segment, Public}
 use Rattle.rules.specs.Map.{Row, row, liesIn, find, rows, most, segmentAt, unitAt, segmentsAt, segments, placeOf, publics, sound, registerNo, registerAt, pinAt}
 use Rattle.rules.specs.Claims.{Within, Holds, TheMap, NoSpare}
 use Rattle.rules.proofs.Tests.{and-true, some-none, same-some}
-use Rattle.rules.proofs.BytesLaws.{Apart}
 use Rattle.rules.proofs.MapLaws.{units-fit, sound-facts, units-fill, segments-aligned, spare-short}
 
 -- ---- any list of rows that follow each other without a gap

@@ -2,28 +2,27 @@
 use Prim.Native.Nat.{ℕ, suc, _+_, _≤_, _<_}
 use mathlib.Core.Path.{_≡_, refl, sym, ap, subst, _∙_}
 use mathlib.Core.Logic.{_≢_, _⊎_, inl, inr}
-use mathlib.Core.Bool.{Bool, true, false, _&&_, not, cond}
+use mathlib.Core.Bool.{Bool, true, false, _&&_, _||_, not, cond}
 use mathlib.Core.List.{List, [], _∷_}
 use mathlib.Core.Option.{Option, none, some}
 use native.Mathlib.Omega.{arith}
-use native.Mathlib.Decide.{ℕ-discrete}
 use lib.ListN.{length}
 use lib.Dec.{eqb, leb}
-use borrow.Author.Tests.{leb-true, eq-eqb, ne-eqb}
+use borrow.Author.Tests.{leb-true, eqb-true, eq-eqb, ne-eqb}
 use Rattle.rules.specs.declared.Register.{Register}
 use Rattle.rules.specs.declared.Register.the-variants.{Read, Write, Edit, Name, Id, Commit, Pa}
 use Rattle.rules.specs.declared.Place.{Place}
 use Rattle.rules.specs.declared.Place.the-variants.{Header, Hidden, RegisterOf, Pins, Readers, UnitOf, Spare, Segment, Public}
 use Rattle.rules.specs.declared.Refusal.{Refusal}
-use Rattle.rules.specs.declared.Refusal.the-variants.{Unsound, Count, Outside, NeverTaken, Malformed, Forbidden, OtherPin, OtherName, BadRegister, FlagUsed, WrongResponse, NotNext, BadEdit, NoAdvance, Unreadable, NoRoom}
+use Rattle.rules.specs.declared.Refusal.the-variants.{Unsound, Count, Outside, NeverTaken, Malformed, Forbidden, OtherPin, OtherName, BadRegister, FlagUsed, WrongResponse, NotNext, BadEdit, OtherModel, Unreadable, NoRoom, BadInsertion}
 use Rattle.rules.specs.Bytes.{put, byte}
 use Rattle.rules.specs.Map.{placeOf, sound, flag}
 use Rattle.rules.specs.State.{Cipher, State}
 use Rattle.rules.specs.Answers.{numberOf}
-use Rattle.rules.specs.Refusals.{Checks, granted, _when_else_, lowest, registerChecks, responseChecks, nameChecks, commitChecks, plainChecks, writeChecks, headerWriteChecks, editChecks, segmentWriteChecks, readChecks, unitReadChecks, segmentReadChecks, advanceChecks}
+use Rattle.rules.specs.Refusals.{Checks, granted, _when_else_, lowest, registerChecks, responseChecks, nameChecks, commitChecks, plainChecks, writeChecks, headerWriteChecks, editChecks, segmentWriteChecks, readChecks, unitReadChecks, segmentReadChecks, advanceChecks, insertChecks}
 use Rattle.rules.specs.Effects.{refusalStores, apply, setFlag}
-use Rattle.rules.specs.Command.{write, inPlace, read, Command, advance, powerUp, checks, refusal, refused, after, afterBy, filled, reply, replyBy}
-use Rattle.rules.specs.Claims.{Applies, LowestGiven, RefusalNamed, RefusedChangesNothing, highest}
+use Rattle.rules.specs.Command.{write, inPlace, read, Command, advance, insert, powerUp, checks, refusal, refused, after, afterBy, filled, reply, replyBy}
+use Rattle.rules.specs.Claims.{Applies, LowestGiven, Among, refusalsOf, RefusalNamed, RefusedChangesNothing}
 use Rattle.rules.proofs.Tests.{and-true, true-false, some-none}
 use Rattle.rules.proofs.BytesLaws.{byte-put, byte-put-out, length-put}
 use Rattle.rules.proofs.MapLaws.{sound-long}
@@ -31,36 +30,42 @@ use Rattle.rules.proofs.Grants.{reply-is}
 
 -- ---- the lists of checks ascend, so the first number that applies is the lowest
 
--- from k on, and up to top
-abbrev ascends : (k top : ℕ) → Checks → Bool
-ascends k top granted = true
-ascends k top (n when b else cs) = leb k n && leb n top && ascends n top cs
+-- n is the number of one of the cases
+abbrev pub numbers : List Refusal → ℕ → Bool
+numbers [] n = false
+numbers (r ∷ rs) n = eqb (numberOf r) n || numbers rs n
 
-ascends-facts : (k top n : ℕ) (b : Bool) (cs : Checks) → ascends k top (n when b else cs) ≡ true
-    → (k ≤ n) × (n ≤ top) × (ascends n top cs ≡ true)
-ascends-facts k top n b cs h =
-    let x = and-true (leb k n && leb n top) (ascends n top cs) h in
-    let y = and-true (leb k n) (leb n top) (x .0) in
-    (leb-true k n (y .0), leb-true n top (y .1), x .1)
+-- from k on, each the number of one of the cases
+abbrev ascends : ℕ → List Refusal → Checks → Bool
+ascends k rs granted = true
+ascends k rs (n when b else cs) = leb k n && numbers rs n && ascends n rs cs
 
-bounded : (k top : ℕ) (cs : Checks) (m : ℕ) → ascends k top cs ≡ true → Applies m cs → (k ≤ m) × (m ≤ top)
-bounded k top granted m h a = absurd a
-bounded k top (n when b else cs) m h (inl a) =
-    let x = ascends-facts k top n b cs h in (omega (arith, a .0, x .0), omega (arith, a .0, x .1))
-bounded k top (n when b else cs) m h (inr a) =
-    let x = ascends-facts k top n b cs h in
-    let z = bounded n top cs m (x .2) a in
+ascends-facts : (k : ℕ) (rs : List Refusal) (n : ℕ) (b : Bool) (cs : Checks) → ascends k rs (n when b else cs) ≡ true
+    → (k ≤ n) × (numbers rs n ≡ true) × (ascends n rs cs ≡ true)
+ascends-facts k rs n b cs h =
+    let x = and-true (leb k n && numbers rs n) (ascends n rs cs) h in
+    let y = and-true (leb k n) (numbers rs n) (x .0) in
+    (leb-true k n (y .0), y .1, x .1)
+
+bounded : (k : ℕ) (rs : List Refusal) (cs : Checks) (m : ℕ) → ascends k rs cs ≡ true → Applies m cs
+    → (k ≤ m) × (numbers rs m ≡ true)
+bounded k rs granted m h a = absurd a
+bounded k rs (n when b else cs) m h (inl a) =
+    let x = ascends-facts k rs n b cs h in (omega (arith, a .0, x .0), ap (numbers rs) (a .0) ∙ x .1)
+bounded k rs (n when b else cs) m h (inr a) =
+    let x = ascends-facts k rs n b cs h in
+    let z = bounded n rs cs m (x .2) a in
     (omega (arith, z .0, x .0), z .1)
 
 abbrev Least : ℕ → Checks → Type 0
 Least n cs = Applies n cs × ((m : ℕ) → Applies m cs → n ≤ m)
 
-least-now : (j top : ℕ) (cs : Checks) → ascends j top cs ≡ true → Least j (j when true else cs)
-least-now j top cs h = (inl (refl, refl), least)
+least-now : (j : ℕ) (rs : List Refusal) (cs : Checks) → ascends j rs cs ≡ true → Least j (j when true else cs)
+least-now j rs cs h = (inl (refl, refl), least)
   where
     least : (m : ℕ) → Applies m (j when true else cs) → j ≤ m
     least m (inl a) = omega (arith, a .0)
-    least m (inr a) = bounded j top cs m h a .0
+    least m (inr a) = bounded j rs cs m h a .0
 
 least-later : (j : ℕ) (cs : Checks) (n : ℕ) → Least n cs → Least n (j when false else cs)
 least-later j cs n x = (inr (x .0), least)
@@ -69,14 +74,15 @@ least-later j cs n x = (inr (x .0), least)
     least m (inl a) = true-false (sym (a .1))
     least m (inr a) = x .1 m a
 
-least-given : (k top : ℕ) (cs : Checks) (n : ℕ) → ascends k top cs ≡ true → lowest cs ≡ some n → Least n cs
+least-given : (k : ℕ) (rs : List Refusal) (cs : Checks) (n : ℕ) → ascends k rs cs ≡ true → lowest cs ≡ some n
+    → Least n cs
 unfolding lowest
-least-given k top granted n h e = some-none (sym e)
-least-given k top (j when true else cs) n h e =
+least-given k rs granted n h e = some-none (sym e)
+least-given k rs (j when true else cs) n h e =
     let q : j ≡ n = cc in
-    subst (λ m. Least m (j when true else cs)) q (least-now j top cs (ascends-facts k top j true cs h .2))
-least-given k top (j when false else cs) n h e =
-    least-later j cs n (least-given j top cs n (ascends-facts k top j false cs h .2) e)
+    subst (λ m. Least m (j when true else cs)) q (least-now j rs cs (ascends-facts k rs j true cs h .2))
+least-given k rs (j when false else cs) n h e =
+    least-later j cs n (least-given j rs cs n (ascends-facts k rs j false cs h .2) e)
 
 none-left : (cs : Checks) (m : ℕ) → lowest cs ≡ none → Applies m cs → ⊥
 unfolding lowest
@@ -85,23 +91,24 @@ none-left (j when true else cs) m e a = some-none e
 none-left (j when false else cs) m e (inl a) = true-false (sym (a .1))
 none-left (j when false else cs) m e (inr a) = none-left cs m e a
 
-register-ascends : (E : Cipher) (s : State) (r : Register) (bs : List ℕ) → ascends 2 13 (registerChecks E s r bs) ≡ true
+register-ascends : (E : Cipher) (s : State) (r : Register) (a : ℕ) (bs : List ℕ)
+    → ascends 2 (refusalsOf (write a bs)) (registerChecks E s r bs) ≡ true
 unfolding registerChecks responseChecks nameChecks commitChecks plainChecks
-register-ascends E s Read bs = refl
-register-ascends E s Write bs = refl
-register-ascends E s Edit bs = refl
-register-ascends E s Name bs = refl
-register-ascends E s Id bs = refl
-register-ascends E s Commit bs = refl
-register-ascends E s Pa bs = refl
+register-ascends E s Read a bs = refl
+register-ascends E s Write a bs = refl
+register-ascends E s Edit a bs = refl
+register-ascends E s Name a bs = refl
+register-ascends E s Id a bs = refl
+register-ascends E s Commit a bs = refl
+register-ascends E s Pa a bs = refl
 
 write-ascends : (E : Cipher) (s : State) (a : ℕ) (bs : List ℕ) (q : Option Place)
-    → ascends 2 13 (inPlace q (λ p. writeChecks E s p a bs)) ≡ true
+    → ascends 2 (refusalsOf (write a bs)) (inPlace q (λ p. writeChecks E s p a bs)) ≡ true
 unfolding inPlace writeChecks headerWriteChecks editChecks segmentWriteChecks
 write-ascends E s a bs none = refl
 write-ascends E s a bs (some Header) = refl
 write-ascends E s a bs (some Hidden) = refl
-write-ascends E s a bs (some (RegisterOf r)) = register-ascends E s r bs
+write-ascends E s a bs (some (RegisterOf r)) = register-ascends E s r a bs
 write-ascends E s a bs (some Pins) = refl
 write-ascends E s a bs (some Readers) = refl
 write-ascends E s a bs (some (UnitOf k)) = refl
@@ -109,75 +116,62 @@ write-ascends E s a bs (some Spare) = refl
 write-ascends E s a bs (some (Segment k)) = refl
 write-ascends E s a bs (some (Public k)) = refl
 
--- a read gets no number above 8
-read-ascends : (s : State) (a n : ℕ) (q : Option Place) → ascends 2 8 (inPlace q (λ p. readChecks s p a n)) ≡ true
+read-ascends : (s : State) (a n room : ℕ) (q : Option Place)
+    → ascends 2 (refusalsOf (read a n room)) (inPlace q (λ p. readChecks s p a n)) ≡ true
 unfolding inPlace readChecks unitReadChecks segmentReadChecks
-read-ascends s a n none = refl
-read-ascends s a n (some Header) = refl
-read-ascends s a n (some Hidden) = refl
-read-ascends s a n (some (RegisterOf r)) = refl
-read-ascends s a n (some Pins) = refl
-read-ascends s a n (some Readers) = refl
-read-ascends s a n (some (UnitOf k)) = refl
-read-ascends s a n (some Spare) = refl
-read-ascends s a n (some (Segment k)) = refl
-read-ascends s a n (some (Public k)) = refl
+read-ascends s a n room none = refl
+read-ascends s a n room (some Header) = refl
+read-ascends s a n room (some Hidden) = refl
+read-ascends s a n room (some (RegisterOf r)) = refl
+read-ascends s a n room (some Pins) = refl
+read-ascends s a n room (some Readers) = refl
+read-ascends s a n room (some (UnitOf k)) = refl
+read-ascends s a n room (some Spare) = refl
+read-ascends s a n room (some (Segment k)) = refl
+read-ascends s a n room (some (Public k)) = refl
 
-checks-ascend : (E : Cipher) (s : State) (c : Command) → ascends 1 (highest c) (checks E s c) ≡ true
-unfolding checks advanceChecks
-checks-ascend E s (read a n room) = read-ascends s a n (placeOf (s .tag) a n)
+checks-ascend : (E : Cipher) (s : State) (c : Command) → ascends 1 (refusalsOf c) (checks E s c) ≡ true
+unfolding checks advanceChecks insertChecks
+checks-ascend E s (read a n room) = read-ascends s a n room (placeOf (s .tag) a n)
 checks-ascend E s (write a bs) = write-ascends E s a bs (placeOf (s .tag) a (length bs))
 checks-ascend E s (advance k) = refl
+checks-ascend E s (insert k id) = refl
 checks-ascend E s powerUp = refl
 
 pub lowest-given : (E : Cipher) (s : State) (c : Command) → LowestGiven E s c
 unfolding refusal
 lowest-given E s c =
     record {
-      lowest-given = λ n e. least-given 1 (highest c) (checks E s c) n (checks-ascend E s c) e;
+      lowest-given = λ n e. least-given 1 (refusalsOf c) (checks E s c) n (checks-ascend E s c) e;
       grant-owed = λ e m a. none-left (checks E s c) m e a;
     }
 
 -- ---- the number is one of the table, and has its case of `Refusal`
 
-number-bounded : (E : Cipher) (s : State) (c : Command) (n : ℕ) → refusal E s c ≡ some n → (1 ≤ n) × (n ≤ highest c)
-number-bounded E s c n e =
-    bounded 1 (highest c) (checks E s c) n (checks-ascend E s c) (lowest-given E s c .lowest-given n e .0)
+number-among : (E : Cipher) (s : State) (c : Command) (n : ℕ) → refusal E s c ≡ some n
+    → numbers (refusalsOf c) n ≡ true
+number-among E s c n e =
+    bounded 1 (refusalsOf c) (checks E s c) n (checks-ascend E s c) (lowest-given E s c .lowest-given n e .0) .1
 
-pub read-not-11 : (E : Cipher) (s : State) (a n room m : ℕ) → refusal E s (read a n room) ≡ some m → m ≢ 11
-read-not-11 E s a n room m e q = let x = number-bounded E s (read a n room) m e in absurd (omega arith)
+-- a command of which 11 does not speak
+pub not-11 : (E : Cipher) (s : State) (c : Command) → numbers (refusalsOf c) 11 ≡ false
+    → (m : ℕ) → refusal E s c ≡ some m → m ≢ 11
+not-11 E s c h m e q = true-false (sym (number-among E s c m e) ∙ ap (numbers (refusalsOf c)) q ∙ h)
 
--- cases that are numbered from k on
-abbrev NumberedFrom : ℕ → List Refusal → Type 0
-NumberedFrom k [] = Unit {0}
-NumberedFrom k (r ∷ rs) = (numberOf r ≡ k) × NumberedFrom (suc k) rs
-
-named-in : (rs : List Refusal) (k n : ℕ) → NumberedFrom k rs → k ≤ n → n < k + length rs
-    → (r : Refusal) × (numberOf r ≡ n)
-named-in [] k n h b c = absurd (omega arith)
-named-in (r ∷ rs) k n h b c = by (ℕ-discrete k n) (λ d. named-in rs (suc k) n (h .1) d (omega arith))
+case-among : (rs : List Refusal) (n : ℕ) → numbers rs n ≡ true → (r : Refusal) × (numberOf r ≡ n) × Among r rs
+case-among [] n h = true-false (sym h)
+case-among (r ∷ rs) n h = by (eqb (numberOf r) n) refl h (case-among rs n)
   where
-    by : Dec (k ≡ n) → (suc k ≤ n → (r : Refusal) × (numberOf r ≡ n)) → (r : Refusal) × (numberOf r ≡ n)
-    by (yes e) later = (r, h .0 ∙ e)
-    by (no e) later = later (omega arith)
+    by : (b : Bool) → eqb (numberOf r) n ≡ b → (b || numbers rs n) ≡ true
+        → (numbers rs n ≡ true → (x : Refusal) × (numberOf x ≡ n) × Among x rs)
+        → (x : Refusal) × (numberOf x ≡ n) × Among x (r ∷ rs)
+    by true e g later = (r, eqb-true (numberOf r) n e, inl refl)
+    by false e g later = let x = later g in (x .0, x .1, inr (x .2))
 
 pub refusal-named : (E : Cipher) (s : State) (c : Command) (n : ℕ) → refusal E s c ≡ some n → RefusalNamed c n
 refusal-named E s c n e =
-    let x = number-bounded E s c n e in
-    let y =
-    named-in
-    (Unsound ∷ Count ∷ Outside ∷ NeverTaken ∷ Malformed ∷ Forbidden ∷ OtherPin ∷ OtherName ∷ BadRegister ∷ FlagUsed
-    ∷ WrongResponse ∷ NotNext ∷ BadEdit ∷ NoAdvance ∷ [])
-    1 n (refl, (refl, (refl, (refl, (refl, (refl, (refl, (refl, (refl, (refl, (refl, (refl, (refl, (refl, tt))))))))))))))
-    (x .0) (below-15 c (x .1))
-    in
-    record { refusal-case = y .0; its-number = y .1; from-one = x .0; at-most = x .1 }
-  where
-    below-15 : (c : Command) → n ≤ highest c → n < 15
-    below-15 (read a m room) h = omega arith
-    below-15 (write a bs) h = omega arith
-    below-15 (advance k) h = omega arith
-    below-15 powerUp h = omega arith
+    let x = case-among (refusalsOf c) n (number-among E s c n e) in
+    record { refusal-case = x .0; its-number = x .1; speaks-of-it = x .2 }
 
 -- ---- the state after a refusal
 
@@ -197,9 +191,10 @@ eleven-or-none FlagUsed = inr refl
 eleven-or-none WrongResponse = inl refl
 eleven-or-none NotNext = inr refl
 eleven-or-none BadEdit = inr refl
-eleven-or-none NoAdvance = inr refl
+eleven-or-none OtherModel = inr refl
 eleven-or-none Unreadable = inr refl
 eleven-or-none NoRoom = inr refl
+eleven-or-none BadInsertion = inr refl
 
 -- a refusal other than 11 leaves the state as it was
 pub refused-stays : (E : Cipher) (s : State) (c : Command) (n : ℕ) → refusal E s c ≡ some n → n ≢ 11 → after E s c ≡ s
@@ -213,6 +208,7 @@ unfolding refusal checks lowest
 unsound-applies E s (read a m room) n h e = inl (refl, ap not h)
 unsound-applies E s (write a bs) n h e = inl (refl, ap not h)
 unsound-applies E s (advance k) n h e = inl (refl, ap not h)
+unsound-applies E s (insert k id) n h e = inl (refl, ap not h)
 unsound-applies E s powerUp n h e = some-none (sym e)
 
 pub eleven-sound : (E : Cipher) (s : State) (c : Command) → refusal E s c ≡ some 11 → sound (s .tag) ≡ true

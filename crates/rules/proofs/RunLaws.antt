@@ -12,9 +12,9 @@ use lib.ListN.{length, drop, length-append}
 use lib.Dec.{eqb, leb}
 use borrow.Author.Tests.{leb-true, le-leb}
 use Rattle.rules.specs.State.{Cipher, State}
-use Rattle.rules.specs.Command.{Command, Reply, read, write, advance, powerUp, done, gives, refused, refusal, grant, reply, replyBy, after}
+use Rattle.rules.specs.Command.{Command, Reply, read, write, advance, insert, powerUp, done, gives, refused, refusal, grant, reply, replyBy, after}
 use Rattle.rules.specs.Run.{replies}
-use Rattle.rules.specs.Log.{Kind, powers, advances, reads, writes, kinds, kindIn, bodyLength, commandOf, wholeOf, first, Parsed, end, unreadable, _taking_then_, parsedBy, parsed, commandsOf, readCode, encoded, encodedAll, roomFor, stopped, onward, carriedOut, runLog, Ran}
+use Rattle.rules.specs.Log.{Kind, powers, advances, inserts, reads, writes, kinds, kindIn, bodyLength, commandOf, wholeOf, first, Parsed, end, unreadable, _taking_then_, parsedBy, parsed, commandsOf, readCode, encoded, encodedAll, roomFor, stopped, onward, carriedOut, runLog, Ran}
 use Rattle.rules.specs.Runs.{dataLength, answerAt, answersIn, RunsContinue}
 use Rattle.rules.proofs.Tests.{some-none, same-some}
 use Rattle.rules.proofs.BytesLaws.{length-part, part-front}
@@ -31,11 +31,13 @@ abbrev pub OfLog : Command → Type 0
 OfLog (read a n room) = LogCount n
 OfLog (write a bs) = Unit {0}
 OfLog (advance k) = Unit {0}
+OfLog (insert k id) = Unit {0}
 OfLog powerUp = Unit {0}
 
 abbrev KindOf : Kind → Type 0
 KindOf powers = Unit {0}
 KindOf advances = Unit {0}
+KindOf inserts = Unit {0}
 KindOf (reads n) = LogCount n
 KindOf (writes n) = Unit {0}
 
@@ -46,7 +48,7 @@ KindsOf (k ∷ ks) = KindOf (k .1) × KindsOf ks
 each-kind : KindsOf kinds
 unfolding kinds
 each-kind =
-    (tt, (inl refl, (inr (inl refl), (inr (inr (inl refl)), (inr (inr (inr refl)), (tt, (tt, (tt, (tt, (tt, tt))))))))))
+    (tt, (inl refl, (inr (inl refl), (inr (inr (inl refl)), (inr (inr (inr refl)), (tt, (tt, (tt, (tt, (tt, (tt, tt)))))))))))
 
 kind-found : (ks : List (ℕ × Kind)) → KindsOf ks → (b : ℕ) (k : Kind) → kindIn ks b ≡ some k → KindOf k
 unfolding kindIn
@@ -61,6 +63,7 @@ command-of : (k : Kind) (body : List ℕ) → KindOf k → OfLog (commandOf k bo
 unfolding commandOf
 command-of powers body h = tt
 command-of advances body h = tt
+command-of inserts body h = tt
 command-of (reads n) body h = h
 command-of (writes n) body h = tt
 
@@ -118,6 +121,7 @@ reply-fits E s (read a n room) h = by (refusal E s (read a n room))
     by (some m) = let k = counted n h in omega arith
 reply-fits E s (write a bs) h = done-fits (refusal E s (write a bs)) s (write a bs) refl
 reply-fits E s (advance k) h = done-fits (refusal E s (advance k)) s (advance k) refl
+reply-fits E s (insert k id) h = done-fits (refusal E s (insert k id)) s (insert k id) refl
 reply-fits E s powerUp h = done-fits (refusal E s powerUp) s powerUp refl
 
 pub run-fits : (E : Cipher) (s : State) (p : Parsed) (room : ℕ) → EachOf p → length (carriedOut E s p room .output) ≤ room
@@ -303,6 +307,7 @@ small (read a n room) (inr (inr (inl e))) = omega arith
 small (read a n room) (inr (inr (inr e))) = omega arith
 small (write a bs) h = omega arith
 small (advance k) h = omega arith
+small (insert k id) h = omega arith
 small powerUp h = omega arith
 
 full-moves : (E : Cipher) (s : State) (log : List ℕ) (room : ℕ) → 33 ≤ room → runLog E s log room .stop ≡ some 16
@@ -377,6 +382,7 @@ reply-readable E s (read a n room) h = by (refusal E s (read a n room)) refl
     by (some m) e = tt
 reply-readable E s (write a bs) h = done-readable (refusal E s (write a bs)) s (write a bs) refl
 reply-readable E s (advance k) h = done-readable (refusal E s (advance k)) s (advance k) refl
+reply-readable E s (insert k id) h = done-readable (refusal E s (insert k id)) s (insert k id) refl
 reply-readable E s powerUp h = done-readable (refusal E s powerUp) s powerUp refl
 
 pub replies-back : (E : Cipher) (s : State) (p : Parsed) → EachOf p

@@ -23,7 +23,7 @@ use Rattle.rules.proofs.MapLaws.{sound-facts}
 use Rattle.rules.proofs.Places.{Numbered, controlled, open-to-all, place-found, placed}
 use Rattle.rules.proofs.Grants.{madeBy, granted-write, stores-write, after-tag}
 use Rattle.rules.proofs.Lawful.{Lawful, write-lawful}
-use Rattle.rules.proofs.Refused.{lowest-given, read-not-11, eleven-sound}
+use Rattle.rules.proofs.Refused.{lowest-given, eleven-sound, not-11 as command-not-11}
 
 -- a read or write of the n bytes at a
 pub data Ranged (a n : ℕ) : Command → Type 0 where
@@ -64,7 +64,7 @@ pub ranged-not-11 : (E : Cipher) (s : State) (k a n : ℕ) (p : Place) (c : Comm
     → Numbered (segments (s .tag)) (publics (s .tag)) k p → Holds (s .tag) p a n → Ranged a n c
     → (m : ℕ) → refusal E s c ≡ some m → m ≢ 11
 unfolding refusal checks inPlace
-ranged-not-11 E s k a n p c u h (a-read room) m e = read-not-11 E s a n room m e
+ranged-not-11 E s k a n p c u h (a-read room) m e = command-not-11 E s (read a n room) refl m e
 ranged-not-11 E s k a n p c u h (a-write bs l) m e =
     λ q.
     let e11 = e ∙ ap some q in

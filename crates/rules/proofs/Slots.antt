@@ -13,21 +13,23 @@ use lib.Dec.{eqb}
 use borrow.Author.Tests.{eqb-true, eq-eqb, ne-eqb}
 use Rattle.rules.specs.declared.Place.{Place}
 use Rattle.rules.specs.declared.Place.the-variants.{Segment}
-use Rattle.rules.specs.Bytes.{part, number, put}
+use Rattle.rules.specs.Bytes.{part, number, put, Apart}
 use Rattle.rules.specs.Map.{segmentAt, segments, sound, slotAt}
 use Rattle.rules.specs.Units.{unitBytes, unitOf}
 use Rattle.rules.specs.State.{Cipher, State}
-use Rattle.rules.specs.Refusals.{lowest, writeChecks}
+use Rattle.rules.specs.Refusals.{lowest, writeChecks, isSharedKey}
 use Rattle.rules.specs.Effects.{Store, _↤_, writeStores, stored, writeMove, apply}
-use Rattle.rules.specs.Command.{write, grant, refusal, stores, refused, Command, read, advance, powerUp, done, Reply, reply, replyBy, gives, after}
+use Rattle.rules.specs.Command.{write, grant, refusal, stores, refused, Command, read, advance, insert, powerUp, done, Reply, reply, replyBy, gives, after}
 use Rattle.rules.specs.Demand3.{slot, valueAt, CounterSegment, counted, LockedCounter}
 use Rattle.rules.specs.Claims.{Holds, OwnMover, ownMove}
-use Rattle.rules.proofs.BytesLaws.{Apart, part-put-same, part-put}
+use Rattle.rules.proofs.Tests.{true-false}
+use Rattle.rules.proofs.BytesLaws.{part-put-same, part-put}
 use Rattle.rules.proofs.StoreLaws.{Each, Off, each-map, apply-part}
 use Rattle.rules.proofs.MapLaws.{sound-long}
 use Rattle.rules.proofs.Places.{placed, places-apart, segment-holds, controlled, place-holds, at-segment}
 use Rattle.rules.proofs.Grants.{slot-facts, granted-write, stores-write, madeBy, advance-facts, after-tag, reply-is}
-use Rattle.rules.proofs.Lawful.{write-off, refusal-off, advance-off, sound-stays}
+use Rattle.rules.proofs.HostsLaws.{insert-facts}
+use Rattle.rules.proofs.Lawful.{HostOf, write-off, refusal-off, advance-off, insert-off, sound-stays}
 use Rattle.rules.proofs.Locked.{locked-unit}
 
 -- what a granted write of `bs` at `a`, which makes the stores `ss`, does to counter segment k
@@ -71,6 +73,7 @@ unfolding counted
 counted-refused x (read a m room) n = refl
 counted-refused x (write a bs) n = refl
 counted-refused x (advance k) n = refl
+counted-refused x (insert k id) n = refl
 counted-refused x powerUp n = refl
 
 pub counted-hit : (x : ℕ) (bs : List ℕ) → length bs ≡ 8 → counted x (write x bs) done ≡ 1
@@ -130,6 +133,13 @@ counts-effect t k j a bs ss w h l (to-slot i m e n v f) =
 -- ---- one command
 
 module _ (E : Cipher) (s : State) (k : ℕ) (w : sound (s .tag) ≡ true) (cs : CounterSegment (s .tag) k) where
+  -- a counter segment is none of model 4
+  host-apart : (i : ℕ) → HostOf (s .tag) i → Apart (segmentAt (segments (s .tag)) i) 4096 (segmentAt (segments (s .tag)) k) 4096
+  host-apart i h = let q : i ≢ k = other in omega arith
+    where
+      other : i ≢ k
+      other e = true-false (sym (h .shares) ∙ rw (e, cs .counts) (unfold isSharedKey in refl))
+
   made-counts : (j : ℕ) (c : Command) (r : Option ℕ) → j < 512 → refusal E s c ≡ r
       → Counts (s .tag) k j c (replyBy r s c) (madeBy r E s c)
   unfolding madeBy replyBy grant stores counted
@@ -143,6 +153,12 @@ module _ (E : Cipher) (s : State) (k : ℕ) (w : sound (s .tag) ≡ true) (cs : 
       let f = advance-facts E s m e .0 in
       let g = sound-long (s .tag) w .0 in
       counts-beside (s .tag) k j (advance m) done _ l (advance-off (s .tag) m _ 4096 (omega arith) (omega arith)) refl
+  made-counts j (insert m id) none l e =
+      let f = insert-facts E s m id e in
+      let h = f .there in
+      let g = sound-long (s .tag) w .0 in
+      counts-beside (s .tag) k j (insert m id) done _ l
+      (insert-off (s .tag) m id _ 4096 w f (omega arith) (omega arith) (λ i h. host-apart i h)) refl
   made-counts j powerUp none l e = counts-beside (s .tag) k j powerUp done [] l tt refl
 
   pub slot-counts : (j : ℕ) (c : Command) → j < 512

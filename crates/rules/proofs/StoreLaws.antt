@@ -3,9 +3,9 @@ use Prim.Native.Nat.{ℕ}
 use mathlib.Core.Path.{_≡_, refl, ap, _∙_}
 use mathlib.Core.List.{List, [], _∷_}
 use lib.ListN.{length}
-use Rattle.rules.specs.Bytes.{part, put}
+use Rattle.rules.specs.Bytes.{part, put, Apart}
 use Rattle.rules.specs.Effects.{Store, _↤_, apply}
-use Rattle.rules.proofs.BytesLaws.{Apart, part-put, put-comm}
+use Rattle.rules.proofs.BytesLaws.{part-put, put-comm}
 
 abbrev pub Each : (Store → Type 0) → List Store → Type 0
 Each P [] = Unit {0}

@@ -15,7 +15,10 @@ use Rattle.rules.proofs.CCalls.{called-is-call, run-called-is-run, noth
 use Rattle.rules.proofs.LogLaws.{log-is-its-commands}
 use Rattle.rules.proofs.LogDemand3.{log-demand-3}
 use Rattle.rules.proofs.FourCommands.{host-reads}
-use Rattle.rules.proofs.Examples.{starred-hold, stages-hold, errors-shown, readings-hold, not-empty, repeats-change}
+use Rattle.rules.proofs.Examples.{starred-hold, insertions-hold, stages-hold, errors-shown, readings-hold, host-readings-hold, not-empty, repeats-change}
+use Rattle.rules.proofs.SharedKeys.{insertion-leaves, list-grows, unit-inserted}
+use Rattle.rules.proofs.SharedReads.{reads-listed}
+use Rattle.rules.proofs.KeptKeys.{keys-shared, keys-read}
 use Rattle.rules.proofs.Moves.{moves-exact, power-up-clears}
 
 pub theorems : Theorems
@@ -44,6 +47,12 @@ theorems =
       sound-stays = sound-stays;
       locked-unit = locked-unit;
       moves-exact = moves-exact;
+      reads-listed = reads-listed;
+      insertion-leaves = insertion-leaves;
+      list-grows = list-grows;
+      unit-inserted = unit-inserted;
+      keys-shared = keys-shared;
+      keys-read = keys-read;
       power-up-clears = power-up-clears;
       host-reads = host-reads;
       one-answer-each = one-answer-each;
@@ -51,7 +60,9 @@ theorems =
       starred-hold = starred-hold;
       stages-hold = stages-hold;
       errors-shown = errors-shown;
+      insertions-hold = insertions-hold;
       readings-hold = readings-hold;
+      host-readings-hold = host-readings-hold;
       not-empty = not-empty;
       repeats-change = repeats-change;
     }

@@ -7,13 +7,13 @@ use lib.ListN.{getD}
 use lib.Dec.{eqb}
 use Rattle.rules.specs.declared.Answer.{Answer}
 use Rattle.rules.specs.declared.Answer.the-variants.{Done, Refused}
-use Rattle.rules.specs.declared.Refusal.the-variants.{Unsound, Count, Outside, NeverTaken, Malformed, Forbidden, OtherPin, OtherName, BadRegister, FlagUsed, WrongResponse, NotNext, BadEdit, NoAdvance, Unreadable, NoRoom}
+use Rattle.rules.specs.declared.Refusal.the-variants.{Unsound, Count, Outside, NeverTaken, Malformed, Forbidden, OtherPin, OtherName, BadRegister, FlagUsed, WrongResponse, NotNext, BadEdit, OtherModel, Unreadable, NoRoom, BadInsertion}
 use Rattle.rules.specs.declared.Stop.{Stop}
 use Rattle.rules.specs.declared.Stop.the-variants.{End, BadCommand, OutputFull}
 use Rattle.rules.specs.Answers.{refusalOf, stopNumber, codeOf}
 use Rattle.rules.specs.Claims.{AnswersTold}
 
--- the answers in the order of their numbers
+-- the answers in the order of their numbers; 17 and 18 are none of them
 answers : List Answer
 answers =
     Done
@@ -30,9 +30,12 @@ answers =
     ∷ Refused WrongResponse
     ∷ Refused NotNext
     ∷ Refused BadEdit
-    ∷ Refused NoAdvance
+    ∷ Refused OtherModel
     ∷ Refused Unreadable
     ∷ Refused NoRoom
+    ∷ Done
+    ∷ Done
+    ∷ Refused BadInsertion
     ∷ []
 
 read-back : (a : Answer) → getD answers (codeOf (refusalOf a)) Done ≡ a
@@ -51,9 +54,10 @@ read-back (Refused FlagUsed) = refl
 read-back (Refused WrongResponse) = refl
 read-back (Refused NotNext) = refl
 read-back (Refused BadEdit) = refl
-read-back (Refused NoAdvance) = refl
+read-back (Refused OtherModel) = refl
 read-back (Refused Unreadable) = refl
 read-back (Refused NoRoom) = refl
+read-back (Refused BadInsertion) = refl
 
 stopBy : ℕ → Stop
 stopBy n = cond (eqb n 0) End (cond (eqb n 15) BadCommand OutputFull)

@@ -2,7 +2,7 @@
 use Prim.Native.Nat.{ℕ}
 use mathlib.Core.Option.{Option, none, some}
 use Rattle.rules.specs.declared.Refusal.{Refusal}
-use Rattle.rules.specs.declared.Refusal.the-variants.{Unsound, Count, Outside, NeverTaken, Malformed, Forbidden, OtherPin, OtherName, BadRegister, FlagUsed, WrongResponse, NotNext, BadEdit, NoAdvance, Unreadable, NoRoom}
+use Rattle.rules.specs.declared.Refusal.the-variants.{Unsound, Count, Outside, NeverTaken, Malformed, Forbidden, OtherPin, OtherName, BadRegister, FlagUsed, WrongResponse, NotNext, BadEdit, OtherModel, Unreadable, NoRoom, BadInsertion}
 use Rattle.rules.specs.declared.Answer.{Answer}
 use Rattle.rules.specs.declared.Answer.the-variants.{Done, Refused}
 use Rattle.rules.specs.declared.Stop.{Stop}
@@ -22,9 +22,10 @@ numberOf FlagUsed = 10
 numberOf WrongResponse = 11
 numberOf NotNext = 12
 numberOf BadEdit = 13
-numberOf NoAdvance = 14
+numberOf OtherModel = 14
 numberOf Unreadable = 15
 numberOf NoRoom = 16
+numberOf BadInsertion = 19
 
 -- the number that an answer gives, if it is a refusal
 abbrev pub refusalOf : Answer → Option ℕ

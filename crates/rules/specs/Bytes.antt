@@ -1,6 +1,6 @@
 -- Bytes and numbers: document 01, "What is built": "Numbers are most significant byte first".
 -- A tag, a command's data and an output are lists of bytes. Assumes nothing.
-use Prim.Native.Nat.{ℕ, zero, suc, _+_, _*_, _/_, _%_}
+use Prim.Native.Nat.{ℕ, zero, suc, _+_, _*_, _/_, _%_, _≤_, _<_}
 use mathlib.Core.Bool.{Bool, true, false, _&&_}
 use mathlib.Core.List.{List, [], _∷_, _++_}
 use lib.ListN.{take, drop, getD}
@@ -55,3 +55,7 @@ xor (x ∷ xs) (y ∷ ys) = bitXor x y ∷ xor xs ys
 unfoldable pub all : List Bool → Bool
 all [] = true
 all (b ∷ bs) = b && all bs
+
+-- no byte is both among the n at a and among the m at x
+abbrev pub Apart : ℕ → ℕ → ℕ → ℕ → Type 0
+Apart a n x m = (i : ℕ) → a ≤ i → i < a + n → x ≤ i → i < x + m → ⊥

@@ -14,7 +14,7 @@ use Rattle.rules.specs.declared.Session.{Session}
 use Rattle.rules.specs.Bytes.{part, put}
 use Rattle.rules.specs.State.{Cipher, State, state, poweredUp}
 use Rattle.rules.specs.Answers.{numberOf, refusalOf}
-use Rattle.rules.specs.Command.{Command, Reply, done, gives, refused, read, write, advance, powerUp, refusal, reply, after, filled}
+use Rattle.rules.specs.Command.{Command, Reply, done, gives, refused, read, write, advance, insert, powerUp, refusal, reply, after, filled}
 use Rattle.rules.specs.Demand3.{LockedCounter, slot, valueAt, grants, Entry, withCopies, withoutCopies, ownReplies, copyReplies, AllRefused, CopiesOfGranted, MayChangePlaces}
 use Rattle.rules.specs.Run.{final, replies}
 
@@ -61,6 +61,8 @@ pub data Call (E : Cipher) (s : State) : Command → Reply → State → Type 0 
       → Call E s (write a bs) (replyOf (o .answer) done) (state t (o .session))
   advances : (k : ℕ) (t : List ℕ) (o : Outcome) → CarriedOut E s (advance k) t o
       → Call E s (advance k) (replyOf (o .answer) done) (state t (o .session))
+  inserts : (k : ℕ) (id t : List ℕ) (o : Outcome) → CarriedOut E s (insert k id) t o
+      → Call E s (insert k id) (replyOf (o .answer) done) (state t (o .session))
   powers-up : Call E s powerUp done (state (s .tag) poweredUp)
 
 -- "Each gets the tag and session that the one before left."

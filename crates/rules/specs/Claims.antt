@@ -7,12 +7,14 @@ use mathlib.Core.Bool.{Bool, true, false}
 use mathlib.Core.List.{List, [], _∷_}
 use mathlib.Core.Option.{none, some}
 use lib.ListN.{length, drop, replicate}
+use Rattle.rules.specs.declared.KeyStage.the-variants.{Filling, Inserted}
 use Rattle.rules.specs.declared.Model.{Model}
-use Rattle.rules.specs.declared.Model.the-variants.{Default, WriteOnce, Counter, Receiver}
+use Rattle.rules.specs.declared.Model.the-variants.{Default, WriteOnce, Counter, Receiver, SharedKey}
 use Rattle.rules.specs.declared.Place.{Place}
 use Rattle.rules.specs.declared.Place.the-variants.{Spare, Segment}
 use Rattle.rules.specs.declared.Answer.{Answer}
 use Rattle.rules.specs.declared.Refusal.{Refusal}
+use Rattle.rules.specs.declared.Refusal.the-variants.{Unsound, Count, Outside, NeverTaken, Malformed, Forbidden, OtherPin, OtherName, BadRegister, FlagUsed, WrongResponse, NotNext, BadEdit, OtherModel, BadInsertion}
 use Rattle.rules.specs.declared.Stop.{Stop}
 use Rattle.rules.specs.Bytes.{byte, put, part}
 use Rattle.rules.specs.Map.{Row, row, rows, segments, publics, placeOf, flag, sound}
@@ -20,8 +22,8 @@ use Rattle.rules.specs.Units.{unitBytes, unitOf, bit}
 use Rattle.rules.specs.State.{Cipher, State}
 use Rattle.rules.specs.Answers.{numberOf, refusalOf, stopNumber, codeOf}
 use Rattle.rules.specs.Refusals.{Checks, granted, _when_else_}
-use Rattle.rules.specs.Effects.{readOnly, advanced}
-use Rattle.rules.specs.Command.{Command, refusal, checks, reply, refused, filled, after, read, advance, write, powerUp}
+use Rattle.rules.specs.Effects.{readOnly, advanced, inserted}
+use Rattle.rules.specs.Command.{Command, refusal, checks, reply, refused, filled, after, read, advance, insert, write, powerUp}
 use Rattle.rules.specs.Run.{replies}
 use Rattle.rules.specs.Log.{runLog, stopped, first, encoded, roomFor, onward, commands}
 
@@ -67,19 +69,26 @@ pub record LowestGiven (E : Cipher) (s : State) (c : Command) : Type 0 where
       → Applies n (checks E s c) × ((m : ℕ) → Applies m (checks E s c) → n ≤ m)
   pub grant-owed : refusal E s c ≡ none → (m : ℕ) → Applies m (checks E s c) → ⊥
 
--- the highest number of the table that speaks of a command
-abbrev pub highest : Command → ℕ
-highest (read a n room) = 8
-highest (write a bs) = 13
-highest (advance k) = 14
-highest powerUp = 0
+-- the numbers of the table that speak of a command
+abbrev pub refusalsOf : Command → List Refusal
+refusalsOf (read a n room) =
+    Unsound ∷ Count ∷ Outside ∷ NeverTaken ∷ Malformed ∷ Forbidden ∷ OtherPin ∷ OtherName ∷ []
+refusalsOf (write a bs) =
+    Unsound ∷ Count ∷ Outside ∷ NeverTaken ∷ Malformed ∷ Forbidden ∷ OtherPin ∷ OtherName ∷ BadRegister ∷ FlagUsed
+    ∷ WrongResponse ∷ NotNext ∷ BadEdit ∷ []
+refusalsOf (advance k) = Unsound ∷ Outside ∷ Malformed ∷ OtherPin ∷ OtherName ∷ OtherModel ∷ []
+refusalsOf (insert k id) = Unsound ∷ Outside ∷ Malformed ∷ OtherPin ∷ OtherName ∷ OtherModel ∷ BadInsertion ∷ []
+refusalsOf powerUp = []
 
--- every number that a command is given speaks of it, and has its case of `Refusal`
+abbrev pub Among : Refusal → List Refusal → Type 0
+Among r [] = ⊥
+Among r (x ∷ xs) = (r ≡ x) ⊎ Among r xs
+
+-- every number that a command is given is that of a case that speaks of it
 pub record RefusalNamed (c : Command) (n : ℕ) : Type 0 where
   pub refusal-case : Refusal
   pub its-number : numberOf refusal-case ≡ n
-  pub from-one : 1 ≤ n
-  pub at-most : n ≤ highest c
+  pub speaks-of-it : Among refusal-case (refusalsOf c)
 
 -- "a public function's contract determines the returned value": an answer and a stop are told by their numbers
 pub record AnswersTold : Type 0 where
@@ -99,15 +108,22 @@ pub record RefusedChangesNothing (E : Cipher) (s : State) (c : Command) (n : ℕ
   pub other-bytes : (i : ℕ) → i ≢ 12 → byte i (after E s c .tag) ≡ byte i (s .tag)
   pub same-length : length (after E s c .tag) ≡ length (s .tag)
 
--- ---- a sound tag stays sound, and what no command may write stays as it was: hidden part and registers, PIN 0,
--- reader IDs
+-- ---- a sound tag stays sound, and what no command may write stays as it was: hidden part and registers, PIN 0; reader
+-- IDs change by granted insertions alone (SharedKeys.antt says how)
+
+abbrev pub NoInsertion : Command → Type 0
+NoInsertion (read a n room) = Unit {0}
+NoInsertion (write a bs) = Unit {0}
+NoInsertion (advance k) = Unit {0}
+NoInsertion (insert k id) = ⊥
+NoInsertion powerUp = Unit {0}
 
 pub record SoundStays (E : Cipher) (s : State) (c : Command) : Type 0 where
   pub stays-sound : sound (after E s c .tag) ≡ true
   pub same-segments : segments (after E s c .tag) ≡ segments (s .tag)
   pub same-publics : publics (after E s c .tag) ≡ publics (s .tag)
   pub low-stays : part 16 4096 (after E s c .tag) ≡ part 16 4096 (s .tag)
-  pub readers-stay : part 8192 4096 (after E s c .tag) ≡ part 8192 4096 (s .tag)
+  pub readers-stay : (refusal E s c ≡ none → NoInsertion c) → part 8192 4096 (after E s c .tag) ≡ part 8192 4096 (s .tag)
 
 -- ---- "A unit with nE set is locked: no edit is granted. The models' own moves of RD, WR and stage still happen."
 
@@ -117,12 +133,15 @@ ownMove Default u = []
 ownMove WriteOnce u = readOnly (byte 0 u) ∷ []
 ownMove Counter u = []
 ownMove (Receiver g) u = advanced (Receiver g) u
+ownMove (SharedKey Filling) u = inserted u
+ownMove (SharedKey Inserted) u = []
 
--- the commands that make it: a write in segment k, and its advance
+-- the commands that make it: a write in segment k, its advance, and the insertion of its host
 abbrev pub OwnMover : State → ℕ → Command → Type 0
 OwnMover s k (read a n room) = ⊥
 OwnMover s k (write a bs) = placeOf (s .tag) a (length bs) ≡ some (Segment k)
 OwnMover s k (advance m) = m ≡ k
+OwnMover s k (insert m id) = m ≡ k
 OwnMover s k powerUp = ⊥
 
 -- the unit of segment k stays as it is, or its model makes its move

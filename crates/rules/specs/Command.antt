@@ -12,14 +12,15 @@ use Rattle.rules.specs.Bytes.{part, put}
 use Rattle.rules.specs.Map.{sound, placeOf, segments}
 use Rattle.rules.specs.Units.{unitBytes}
 use Rattle.rules.specs.State.{Cipher, State, poweredUp}
-use Rattle.rules.specs.Refusals.{Checks, _when_else_, granted, readChecks, writeChecks, advanceChecks, lowest}
-use Rattle.rules.specs.Effects.{Store, writeStores, writeSession, advanceStores, apply, refusalStores}
+use Rattle.rules.specs.Refusals.{Checks, _when_else_, granted, readChecks, writeChecks, advanceChecks, insertChecks, lowest}
+use Rattle.rules.specs.Effects.{Store, writeStores, writeSession, advanceStores, insertStores, apply, refusalStores}
 
 -- `room` is the length of the output that a read is given
 pub data Command : Type 0 where
   read : (address count room : ℕ) → Command
   write : (address : ℕ) → List ℕ → Command
   advance : (segment : ℕ) → Command
+  insert : (segment : ℕ) (id : List ℕ) → Command
   powerUp : Command
 
 -- "An answer is the grant or the refusal number, with the bytes read where a read is granted"
@@ -51,6 +52,10 @@ checks E s (advance k) =
     1 when not (sound (s .tag)) else
     3 when not (ltb k (segments (s .tag))) else
     advanceChecks (s .session .write) (s .session .name) (unitBytes (s .tag) k)
+checks E s (insert k id) =
+    1 when not (sound (s .tag)) else
+    3 when not (ltb k (segments (s .tag))) else
+    insertChecks (s .session .write) (s .session .name) (s .tag) k id
 checks E s powerUp = granted
 
 unfoldable pub refusal : Cipher → State → Command → Option ℕ
@@ -70,18 +75,21 @@ unfoldable pub stores : Cipher → State → Command → List Store
 stores E s (read a n room) = []
 stores E s (write a bs) = storesIn E s (placeOf (s .tag) a (length bs)) a bs
 stores E s (advance k) = advanceStores (s .tag) k
+stores E s (insert k id) = insertStores (s .tag) k id
 stores E s powerUp = []
 
 unfoldable pub newSession : Cipher → State → Command → Session
 newSession E s (read a n room) = s .session
 newSession E s (write a bs) = sessionIn E s (placeOf (s .tag) a (length bs)) bs
 newSession E s (advance k) = s .session
+newSession E s (insert k id) = s .session
 newSession E s powerUp = poweredUp
 
 unfoldable pub grant : State → Command → Reply
 grant s (read a n room) = gives (part a n (s .tag))
 grant s (write a bs) = done
 grant s (advance k) = done
+grant s (insert k id) = done
 grant s powerUp = done
 
 -- ---- the answer, and the state after it: "A refused command .. returns its number alone and changes nothing, except

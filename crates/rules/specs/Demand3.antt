@@ -13,7 +13,7 @@ use Rattle.rules.specs.Bytes.{number, part}
 use Rattle.rules.specs.Map.{segments, slotAt, publics, segmentAt}
 use Rattle.rules.specs.Units.{wellFormed, unitBytes, unitOf}
 use Rattle.rules.specs.State.{Cipher, State}
-use Rattle.rules.specs.Command.{Command, Reply, read, write, done, gives, refused, advance, powerUp, after, reply}
+use Rattle.rules.specs.Command.{Command, Reply, read, write, done, gives, refused, advance, insert, powerUp, after, reply}
 use Rattle.rules.specs.Run.{final, replies}
 use Rattle.rules.specs.Log.{runLog, encoded, encodedAll, commands}
 
@@ -45,6 +45,7 @@ counted x (write a bs) done = cond (eqb a x && eqb (length bs) 8) 1 0
 counted x (write a bs) (gives b) = 0
 counted x (write a bs) (refused n) = 0
 counted x (advance k) r = 0
+counted x (insert k id) r = 0
 counted x powerUp r = 0
 
 -- "the number of granted writes to it": "Grants are counted over the answers."
@@ -108,13 +109,14 @@ CopiesOfGranted E t s before (copy c ∷ es) =
 -- ---- neighbours
 
 -- "each is a read or write wholly inside one access-controlled or public segment": segment k; the public ones count
--- on from A
+-- on from A. Document 02, L4: insertion "is outside its exchange of neighbours"
 abbrev pub Inside : List ℕ → ℕ → Command → Type 0
 Inside t k (read a n room) =
     (k < segments t + publics t) × (segmentAt (segments t) k ≤ a) × (a + n ≤ segmentAt (segments t) k + 4096)
 Inside t k (write a bs) =
     (k < segments t + publics t) × (segmentAt (segments t) k ≤ a) × (a + length bs ≤ segmentAt (segments t) k + 4096)
 Inside t k (advance n) = ⊥
+Inside t k (insert n id) = ⊥
 Inside t k powerUp = ⊥
 
 -- "if either these segments differ or both commands write one whole slot, not the same one, of a counter segment"

@@ -1,21 +1,24 @@
--- Document 01, "What a command does": what a granted command changes, and 11. Assumes nothing.
+-- Document 01, "What a command does": what a granted command changes, and 11; document 02, L4: what an insertion
+-- changes. Assumes nothing.
 -- The tag changes by stores, made one after another; the session by the functions of State.
-use Prim.Native.Nat.{ℕ, _+_, _-_}
+use Prim.Native.Nat.{ℕ, suc, _+_, _-_, _*_}
 use mathlib.Core.Bool.{cond}
-use mathlib.Core.List.{List, [], _∷_}
-use lib.ListN.{length}
+use mathlib.Core.List.{List, [], _∷_, _++_}
+use lib.ListN.{length, replicate}
 use lib.Dec.{eqb}
 use Rattle.rules.specs.declared.Session.{Session}
 use Rattle.rules.specs.declared.Stage.the-variants.{Zero, One, Two}
+use Rattle.rules.specs.declared.KeyStage.the-variants.{Filling, Inserted}
 use Rattle.rules.specs.declared.Model.{Model}
-use Rattle.rules.specs.declared.Model.the-variants.{Default, WriteOnce, Counter, Receiver}
+use Rattle.rules.specs.declared.Model.the-variants.{Default, WriteOnce, Counter, Receiver, SharedKey}
 use Rattle.rules.specs.declared.Register.{Register}
 use Rattle.rules.specs.declared.Register.the-variants.{Write, Read, Edit, Name, Id, Commit, Pa}
 use Rattle.rules.specs.declared.Place.{Place}
 use Rattle.rules.specs.declared.Place.the-variants.{Header, Hidden, RegisterOf, Pins, Readers, UnitOf, Spare, Segment, Public}
-use Rattle.rules.specs.Bytes.{put, xor, byte, part}
-use Rattle.rules.specs.Map.{unitAt, pinAt}
+use Rattle.rules.specs.Bytes.{put, xor, byte, part, bytesOf}
+use Rattle.rules.specs.Map.{unitAt, pinAt, segments}
 use Rattle.rules.specs.Units.{unitOf, unitBytes}
+use Rattle.rules.specs.Hosts.{Host, hosts, readersAt, hostSlotAt, slotId, slotKey, slotMask}
 use Rattle.rules.specs.State.{Cipher, State, pin, pinIndex, response, owner, ownerIndex, withRead, withWrite, withEdit, withName, withId, withPa}
 
 infix 68 _↤_
@@ -30,7 +33,8 @@ abbrev pub setFlag : ℕ → Store
 setFlag b = 12 ↤ (b ∷ [])
 
 -- ---- "Segment write: .. Default stores. Model 1 stores, then clears WR and sets RD. Model 2 takes one aligned slot
--- .. Model 3 stores at stage 0 and XORs into what is there at stage 1."
+-- .. Model 3 stores at stage 0 and XORs into what is there at stage 1." Document 02, L4: "A granted write at stage 0
+-- stores."
 
 unfoldable pub stored : Model → List ℕ → List ℕ → List ℕ
 stored Default old bs = bs
@@ -39,6 +43,7 @@ stored Counter old bs = bs
 stored (Receiver Zero) old bs = bs
 stored (Receiver One) old bs = xor bs old
 stored (Receiver Two) old bs = bs
+stored (SharedKey g) old bs = bs
 
 -- WR cleared and RD set, in a control byte that has WR set and RD clear
 unfoldable pub readOnly : ℕ → ℕ
@@ -50,6 +55,7 @@ writeMove Default at u = []
 writeMove WriteOnce at u = (at ↤ (readOnly (byte 0 u) ∷ [])) ∷ []
 writeMove Counter at u = []
 writeMove (Receiver g) at u = []
+writeMove (SharedKey g) at u = []
 
 -- ---- "Advance: .. stage 0 to 1, 1 to 2 (RD set, WR cleared)": the two first bytes of the unit after it
 
@@ -60,9 +66,48 @@ advanced Counter u = byte 0 u ∷ byte 1 u ∷ []
 advanced (Receiver Zero) u = byte 0 u ∷ (byte 1 u + 16) ∷ []
 advanced (Receiver One) u = readOnly (byte 0 u) ∷ (byte 1 u + 16) ∷ []
 advanced (Receiver Two) u = byte 0 u ∷ byte 1 u ∷ []
+advanced (SharedKey g) u = byte 0 u ∷ byte 1 u ∷ []
 
 unfoldable pub advanceStores : List ℕ → ℕ → List Store
 advanceStores t k = (unitAt k ↤ advanced (unitOf (unitBytes t k) .model) (unitBytes t k)) ∷ []
+
+-- ---- document 02, L4, insertion of a host: "the tag, when it has x hosts, does this for i = 1 to x: the new id is XORed
+-- into slot x+1 of host i and id i into slot i of the new host; both masks are XORed into both keys; both masks become
+-- zero." Rows and slots are counted from 0 here.
+
+-- a slot after it: the id of the other host, and both masks
+unfoldable pub joinedSlot : (id masks slot : List ℕ) → List ℕ
+joinedSlot id masks slot = xor (slotId slot) id ++ (xor (slotKey slot) masks ++ replicate 16 0)
+
+abbrev pub slotIn : ℕ → List ℕ → List ℕ
+slotIn at t = part at 48 t
+
+-- the slots at a and b become a pair of the hosts with these ids
+unfoldable pub pairStores : (a b : ℕ) (idA idB : List ℕ) → List ℕ → List Store
+pairStores a b idA idB t =
+    let masks = xor (slotMask (slotIn a t)) (slotMask (slotIn b t)) in
+    (a ↤ joinedSlot idB masks (slotIn a t)) ∷ (b ↤ joinedSlot idA masks (slotIn b t)) ∷ []
+
+-- row i and those behind it are joined with the new host, of segment k, in a list of x rows; each pair on the tag that
+-- the one before it left
+unfoldable pub joinStores : (A k x : ℕ) (id : List ℕ) (i : ℕ) → List Host → List ℕ → List Store
+joinStores A k x id i [] t = []
+joinStores A k x id i (h ∷ hs) t =
+    let ss = pairStores (hostSlotAt A (h .named - 1) x) (hostSlotAt A k i) (h .id) id t in
+    ss ++ joinStores A k x id (suc i) hs (apply ss t)
+
+-- "After insertion the segment is stage 1, RD only"
+unfoldable pub inserted : List ℕ → List ℕ
+inserted u = readOnly (byte 0 u) ∷ (byte 1 u + 16) ∷ []
+
+-- "18 bytes a row, id first and segment number plus one after": row x
+unfoldable pub rowStore : (x k : ℕ) (id : List ℕ) → Store
+rowStore x k id = (readersAt + 18 * x) ↤ (id ++ bytesOf 2 (k + 1))
+
+unfoldable pub insertStores : List ℕ → ℕ → List ℕ → List Store
+insertStores t k id =
+    joinStores (segments t) k (length (hosts t)) id 0 (hosts t) t
+    ++ (rowStore (length (hosts t)) k id ∷ (unitAt k ↤ inserted (unitBytes t k)) ∷ [])
 
 -- ---- registers: "READ, WRITE, EDIT: flag .. is set to 1 .. NAME: same flag rule .. COMMIT: same flag rule; .. the
 -- written bytes XOR E_K(counter) become the PIN at the index"

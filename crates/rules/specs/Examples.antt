@@ -9,7 +9,7 @@ use lib.ListN.{replicate}
 use Rattle.rules.specs.Bytes.{put, xor}
 use Rattle.rules.specs.Map.{registerAt, sound}
 use Rattle.rules.specs.State.{Cipher, State, poweredUp, withPa}
-use Rattle.rules.specs.Command.{Command, Reply, write, done, refused, read, gives, advance, powerUp}
+use Rattle.rules.specs.Command.{Command, Reply, write, done, refused, read, gives, advance, insert, powerUp}
 use Rattle.rules.specs.Run.{replies, final}
 use Rattle.rules.specs.Log.{runLog}
 use Rattle.rules.specs.Demand3.{LockedCounter}
@@ -108,6 +108,40 @@ stages =
     ∷ gives (6 ∷ [])
     ∷ refused 6
     ∷ refused 14
+    ∷ [])
+    ∷ []
+
+-- ---- document 02, L4: two hosts are inserted. In its slot for the other the first has written the key 50 and the mask 0F,
+-- the second the key 30 and the mask 05 (in hexadecimal, first bytes only): the shared key is 0A, and each slot holds the
+-- id of the other host, its old key XOR 0A, and no mask. The own slots stay hidden.
+
+unfoldable pub hostTag : List ℕ
+hostTag =
+    put 12320 (0x21 ∷ 0x04 ∷ []) (put 12288 (0x25 ∷ 0x04 ∷ []) (put 0 (0 ∷ 2 ∷ []) (replicate 24576 0)))
+
+unfoldable pub hostId : ℕ → List ℕ
+hostId n = replicate 16 n
+
+unfoldable pub insertions : List Example
+insertions =
+    sends (begin hostTag)
+    (write 16448 (0x50 ∷ replicate 15 0 ++ 0x0F ∷ [])
+    ∷ write 20496 (0x30 ∷ replicate 15 0 ++ 0x05 ∷ [])
+    ∷ insert 0 (hostId 1)
+    ∷ insert 1 (hostId 1)
+    ∷ insert 1 (hostId 2)
+    ∷ read 16384 1 1
+    ∷ read 16432 48 48
+    ∷ read 20480 48 48
+    ∷ [])
+    (done
+    ∷ done
+    ∷ done
+    ∷ refused 19
+    ∷ done
+    ∷ refused 6
+    ∷ gives (hostId 2 ++ 0x5A ∷ replicate 31 0)
+    ∷ gives (hostId 1 ++ 0x3A ∷ replicate 31 0)
     ∷ [])
     ∷ []
 

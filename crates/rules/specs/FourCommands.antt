@@ -8,6 +8,7 @@ use lib.ListN.{length}
 use Rattle.rules.specs.Bytes.{bytesOf, part}
 use Rattle.rules.specs.Map.{registerAt, counter, sound, segments, segmentAt}
 use Rattle.rules.specs.Units.{wellFormed, unitBytes, unitOf}
+use Rattle.rules.specs.Refusals.{isSharedKey}
 use Rattle.rules.specs.State.{Cipher, encipheredCounter, pin, State}
 use Rattle.rules.specs.Command.{Command, write, read, done, gives}
 use Rattle.rules.specs.Run.{replies}
@@ -23,7 +24,7 @@ fourCommands E t i rest a n room =
     ∷ []
 
 -- "For a segment with RD set, PN clear and a well-formed unit, on a sound tag with counter below 2^64 - 1": of the
--- cipher it is assumed only that a block of 16 bytes gives 16
+-- cipher it is assumed only that a block of 16 bytes gives 16. Document 02, L4: "the four-command case excepts model 4"
 abbrev pub HostReads : Type 0
 HostReads =
     (E : Cipher) → ((key block : List ℕ) → length block ≡ 16 → length (E key block) ≡ 16)
@@ -31,6 +32,7 @@ HostReads =
     → sound (s .tag) ≡ true → counter (s .tag) < 2 ^ 64 - 1
     → k < segments (s .tag) → wellFormed (unitBytes (s .tag) k) ≡ true
     → unitOf (unitBytes (s .tag) k) .rd ≡ true → unitOf (unitBytes (s .tag) k) .pn ≡ false
+    → isSharedKey (unitOf (unitBytes (s .tag) k) .model) ≡ false
     → 1 ≤ n → n ≤ room → segmentAt (segments (s .tag)) k ≤ a → a + n ≤ segmentAt (segments (s .tag)) k + 4096
     → length rest ≡ 14
     → replies E s (fourCommands E (s .tag) (unitOf (unitBytes (s .tag) k) .read) rest a n room)

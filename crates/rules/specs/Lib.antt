@@ -2,6 +2,7 @@
 pub mod Bytes
 pub mod Map
 pub mod Units
+pub mod Hosts
 pub mod State
 pub mod Answers
 pub mod Refusals
@@ -14,6 +15,7 @@ pub mod Calls
 pub mod Runs
 pub mod CCalls
 pub mod Claims
+pub mod SharedKeys
 pub mod FourCommands
 pub mod Examples
 pub mod Readings

@@ -7,12 +7,12 @@ use lib.ListN.{length}
 use lib.Dec.{eqb, leb}
 use Rattle.rules.specs.Bytes.{number, part}
 use Rattle.rules.specs.State.{State, Cipher}
-use Rattle.rules.specs.Command.{advance, read, write, Command, powerUp, Reply, done, gives, refused, reply, after}
+use Rattle.rules.specs.Command.{advance, insert, read, write, Command, powerUp, Reply, done, gives, refused, reply, after}
 
 -- ---- "One byte of kind, then a body whose length the kind fixes"
 
 pub data Kind : Type 0 where
-  powers advances : Kind
+  powers advances inserts : Kind
   reads writes : (count : ℕ) → Kind
 
 unfoldable pub kinds : List (ℕ × Kind)
@@ -27,22 +27,25 @@ kinds =
     ∷ (0x23, writes 16)
     ∷ (0x24, writes 32)
     ∷ (0x31, advances)
+    ∷ (0x32, inserts)
     ∷ []
 
 unfoldable pub kindIn : List (ℕ × Kind) → ℕ → Option Kind
 kindIn [] b = none
 kindIn (k ∷ ks) b = cond (eqb b (k .0)) (some (k .1)) (kindIn ks b)
 
--- "(address 4)", "(address 4, data)", "(segment 2)"
+-- "(address 4)", "(address 4, data)", "(segment 2)"; document 02, L4: "(segment 2, id 16)"
 unfoldable pub bodyLength : Kind → ℕ
 bodyLength powers = 0
 bodyLength advances = 2
+bodyLength inserts = 18
 bodyLength (reads n) = 4
 bodyLength (writes n) = 4 + n
 
 unfoldable pub commandOf : Kind → List ℕ → Command
 commandOf powers body = powerUp
 commandOf advances body = advance (number (part 0 2 body))
+commandOf inserts body = insert (number (part 0 2 body)) (part 2 16 body)
 commandOf (reads n) body = read (number (part 0 4 body)) n n
 commandOf (writes n) body = write (number (part 0 4 body)) (part 4 n body)
 
@@ -101,6 +104,7 @@ unfoldable pub roomFor : Command → ℕ
 roomFor (read a n room) = 1 + n
 roomFor (write a bs) = 2
 roomFor (advance k) = 2
+roomFor (insert k id) = 2
 roomFor powerUp = 2
 
 -- ---- the run: "returns bytes read .., bytes written, the stop (end, 15, 16) and the session"; the bytes written are

@@ -1,14 +1,14 @@
--- Where document 01 can be read in two ways: inputs that tell the readings apart, with the answers of the one that is
--- taken. docs/DECISIONS.md has each question under the name used here. Assumes nothing.
-use Prim.Native.Nat.{ℕ}
+-- Where document 01, or L4 of document 02, can be read in two ways: inputs that tell the readings apart, with the answers
+-- of the one that is taken. docs/DECISIONS.md has each question under the name used here. Assumes nothing.
+use Prim.Native.Nat.{ℕ, _+_, _*_}
 use mathlib.Core.List.{List, [], _∷_, _++_}
 use mathlib.Core.Option.{none, some}
 use lib.ListN.{replicate}
 use Rattle.rules.specs.Bytes.{put}
 use Rattle.rules.specs.Map.{registerAt}
 use Rattle.rules.specs.State.{withRead, poweredUp}
-use Rattle.rules.specs.Command.{write, done, refused, read, gives, advance, powerUp}
-use Rattle.rules.specs.Examples.{Example, sends, begin, counterTag, eight, tagWith, naming, runs}
+use Rattle.rules.specs.Command.{write, done, refused, read, gives, advance, insert, powerUp}
+use Rattle.rules.specs.Examples.{Example, sends, begin, counterTag, eight, hostId, hostTag, tagWith, naming, runs}
 
 -- an address in unit 0 is 12288 and on, in segment 0 16384 and on
 unfoldable pub zeros16 : List ℕ
@@ -179,3 +179,84 @@ unfoldable pub readings : List Example
 readings =
     counterOrder ++ modelThreeEdits ++ modelOneEdits ++ advanceOrder ++ coveredName ++ indexRules ++ registerRules
     ++ pinRules ++ whichKey ++ countFirst ++ shortTag ++ defaultModel ++ logRoom
+
+-- ---- document 02, L4. Row i of the list is at 8192 + 18 i, the segment number plus one 16 bytes behind it.
+
+-- row i of the list, with a first byte of its id, and the segment number plus one
+unfoldable pub listing : (i id named : ℕ) → List ℕ → List ℕ
+listing i id named t = put (8192 + 18 * i) (id ∷ replicate 15 0 ++ 0 ∷ named ∷ []) t
+
+-- an insertion gives 7 before 14, 14 before 19, and never 6; nE does not stop it, and of byte 0 only RD and WR change; with
+-- M clear byte 1 = 04 is the default model
+unfoldable pub insertOrder : List Example
+insertOrder =
+    sends (begin (put 12295 (7 ∷ []) (tagWith 0xB0 0x00))) (insert 0 (hostId 0) ∷ []) (refused 7 ∷ [])
+    ∷ sends (begin (tagWith 0xA0 0x04)) (insert 0 (hostId 0) ∷ insert 1 (hostId 0) ∷ read 16384 1 1 ∷ []) (refused 14 ∷ refused 3 ∷ gives (0 ∷ []) ∷ [])
+    ∷ sends (begin (tagWith 0x25 0x04)) (insert 0 (hostId 1) ∷ read 12288 2 2 ∷ insert 0 (hostId 2) ∷ []) (done ∷ gives (0x85 ∷ 0x14 ∷ []) ∷ refused 14 ∷ [])
+    ∷ []
+
+-- the id is the command's: what the session holds as its ID is neither looked at nor changed
+unfoldable pub whoseId : List Example
+whoseId =
+    sends (begin (tagWith 0x21 0x04)) (write (registerAt 4) (hostId 9) ∷ insert 0 (hostId 1) ∷ read 8192 18 18 ∷ []) (done ∷ done ∷ gives (hostId 1 ++ 0 ∷ 1 ∷ []) ∷ [])
+    ∷ []
+
+-- slot j belongs to row j: a read gets 6 that touches the own slot, a slot behind the list or the last 16 bytes, before 7; so
+-- does every read at stage 1 where the segment is not listed. Here 85 rows are listed, and the last names the segment.
+unfoldable pub hiddenSlots : List Example
+hiddenSlots =
+    sends (begin (listing 84 9 1 (put 8192 (replicate 4096 7) (tagWith 0x81 0x14))))
+    (read 20415 1 1 ∷ read 20415 2 2 ∷ read 20432 1 1 ∷ read 20464 1 1 ∷ [])
+    (gives (0 ∷ []) ∷ refused 6 ∷ refused 6 ∷ refused 6 ∷ [])
+    ∷ sends (begin (listing 1 9 1 (listing 0 8 0 (tagWith 0x81 0x14))))
+    (read 16431 1 1 ∷ read 16431 2 2 ∷ read 16480 1 1 ∷ [])
+    (gives (0 ∷ []) ∷ refused 6 ∷ refused 6 ∷ [])
+    ∷ sends (begin (put 12293 (7 ∷ []) (tagWith 0xC1 0x14))) (read 16384 1 1 ∷ []) (refused 6 ∷ [])
+    ∷ []
+
+-- a segment is listed where a row names it, whatever the row or its unit is otherwise; its unit takes no edit, 6 and 7 come
+-- first; rows behind the end do not count
+unfoldable pub listedEdits : List Example
+listedEdits =
+    sends (begin (listing 0 9 1 (tagWith 0xA0 0x00))) (write 12293 (3 ∷ []) ∷ []) (refused 13 ∷ [])
+    ∷ sends (begin (listing 0 9 1 (tagWith 0xA4 0x00))) (write 12293 (3 ∷ []) ∷ []) (refused 6 ∷ [])
+    ∷ sends (begin (put 12297 (3 ∷ []) (listing 0 9 1 (tagWith 0xA0 0x00)))) (write 12293 (3 ∷ []) ∷ []) (refused 7 ∷ [])
+    ∷ sends (begin (listing 1 9 1 (tagWith 0xA0 0x00))) (write 12293 (3 ∷ []) ∷ []) (done ∷ [])
+    ∷ []
+
+-- a unit at stage 1 that is not listed may be brought to stage 0 or another model; a result at stage 1 is 13
+unfoldable pub stageOneEdits : List Example
+stageOneEdits =
+    sends (begin (tagWith 0x81 0x14))
+    (write 12304 (65 ∷ []) ∷ write 12288 (0x21 ∷ 0x04 ∷ []) ∷ write 12288 (0x81 ∷ 0x14 ∷ []) ∷ [])
+    (refused 13 ∷ done ∷ refused 13 ∷ [])
+    ∷ []
+
+-- an insertion writes its own row only, so that rows behind the old end may join the list: then the unit that one of them
+-- names takes no edit
+unfoldable pub staleRows : List Example
+staleRows =
+    sends (begin (listing 1 9 2 hostTag))
+    (write 12325 (3 ∷ []) ∷ insert 0 (hostId 1) ∷ write 12325 (0 ∷ []) ∷ insert 1 (hostId 2) ∷ [])
+    (done ∷ done ∷ refused 13 ∷ refused 19 ∷ [])
+    ∷ []
+
+-- three segments of model 4, the first two at stage 1
+unfoldable pub threeHosts : List ℕ
+threeHosts =
+    put 12352 (0x21 ∷ 0x04 ∷ []) (put 12320 (0x81 ∷ 0x14 ∷ []) (put 12288 (0x81 ∷ 0x14 ∷ []) (put 0 (0 ∷ 3 ∷ []) (replicate 28672 0))))
+
+-- 19 for an id of zeros; for a row that names no segment, by 0 or a number over A, and for one whose segment is at stage 0,
+-- which takes writes all the same; for an id or a segment that two rows have
+unfoldable pub badRows : List Example
+badRows =
+    sends (begin (listing 0 9 0 hostTag)) (insert 0 (hostId 1) ∷ []) (refused 19 ∷ [])
+    ∷ sends (begin (listing 0 9 3 hostTag)) (insert 0 (hostId 1) ∷ []) (refused 19 ∷ [])
+    ∷ sends (begin (listing 0 9 1 hostTag)) (insert 1 (hostId 2) ∷ write 16384 (1 ∷ []) ∷ []) (refused 19 ∷ done ∷ [])
+    ∷ sends (begin (put 12288 (0x81 ∷ 0x14 ∷ []) (listing 1 8 1 (listing 0 9 1 hostTag)))) (insert 1 (hostId 2) ∷ []) (refused 19 ∷ [])
+    ∷ sends (begin (listing 1 9 2 (listing 0 9 1 threeHosts))) (insert 2 (hostId 2) ∷ []) (refused 19 ∷ [])
+    ∷ sends (begin (tagWith 0x21 0x04)) (insert 0 (hostId 0) ∷ []) (refused 19 ∷ [])
+    ∷ []
+
+unfoldable pub hostReadings : List Example
+hostReadings = insertOrder ++ whoseId ++ hiddenSlots ++ listedEdits ++ stageOneEdits ++ staleRows ++ badRows

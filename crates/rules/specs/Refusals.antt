@@ -1,6 +1,6 @@
--- Document 01, "What a command does" and "Refusal numbers": what refuses a command in a place, 4 to 14. Assumes
--- nothing. `t` is the tag, `u` the bytes of a unit, `bs` the bytes to be written; `read`, `write`, `edit` and `name`
--- are the session's.
+-- Document 01, "What a command does" and "Refusal numbers": what refuses a command in a place, 4 to 14; document 02, L4:
+-- what refuses an insertion, 19 among it. Assumes nothing. `t` is the tag, `u` the bytes of a unit, `bs` the bytes to be
+-- written; `read`, `write`, `edit` and `name` are the session's.
 use Prim.Native.Nat.{ℕ, _+_, _-_, _%_}
 use mathlib.Core.Bool.{Bool, true, false, _&&_, not, cond}
 use mathlib.Core.List.{List, [], _∷_}
@@ -8,15 +8,17 @@ use mathlib.Core.Option.{Option, none, some}
 use lib.ListN.{length}
 use lib.Dec.{eqb, leb, ltb}
 use Rattle.rules.specs.declared.Stage.the-variants.{Zero, One, Two}
+use Rattle.rules.specs.declared.KeyStage.the-variants.{Filling, Inserted}
 use Rattle.rules.specs.declared.Model.{Model}
-use Rattle.rules.specs.declared.Model.the-variants.{Default, WriteOnce, Counter, Receiver}
+use Rattle.rules.specs.declared.Model.the-variants.{Default, WriteOnce, Counter, Receiver, SharedKey}
 use Rattle.rules.specs.declared.Register.{Register}
 use Rattle.rules.specs.declared.Register.the-variants.{Write, Read, Edit, Name, Id, Commit, Pa}
 use Rattle.rules.specs.declared.Place.{Place}
 use Rattle.rules.specs.declared.Place.the-variants.{Header, Hidden, RegisterOf, Pins, Readers, UnitOf, Spare, Segment, Public}
-use Rattle.rules.specs.Bytes.{number, part, same, all, byte, put}
+use Rattle.rules.specs.Bytes.{number, part, same, zeros, all, byte, put}
 use Rattle.rules.specs.Map.{flag, unitAt, segmentAt, segments}
 use Rattle.rules.specs.Units.{wellFormed, unitOf, nameOf, modelled, unitBytes}
+use Rattle.rules.specs.Hosts.{Host, hosts, mostHosts, hasId, any, listed, repeats, readable}
 use Rattle.rules.specs.State.{pin, response, Cipher, State, pinIndex, owner, ownerIndex, guard}
 
 -- ---- the table's numbers, each with when it is given, in ascending order
@@ -49,12 +51,26 @@ headerWriteChecks t a bs =
     granted
 
 -- ---- "Segment read: RD set; if RDPIN, the validated read index equals the unit's; if PN, the session name equals
--- the unit's."
+-- the unit's." Document 02, L4: "a read there gets 6 unless its segment is listed and it lies wholly in slots of listed
+-- rows, none naming that segment"
 
-unfoldable pub segmentReadChecks : (read : ℕ) (name u : List ℕ) → Checks
-segmentReadChecks read name u =
+unfoldable pub isSharedKey : Model → Bool
+isSharedKey Default = false
+isSharedKey WriteOnce = false
+isSharedKey Counter = false
+isSharedKey (Receiver g) = false
+isSharedKey (SharedKey g) = true
+
+-- by its model: of the n bytes at offset o of segment k
+unfoldable pub hides : Model → (k o n : ℕ) → List Host → Bool
+hides m k o n hs = isSharedKey m && not (readable k o n hs)
+
+-- `o` and `n` are the offset in segment k and the count
+unfoldable pub segmentReadChecks : (read : ℕ) (name u : List ℕ) (k o n : ℕ) → List Host → Checks
+segmentReadChecks read name u k o n hs =
     5 when not (wellFormed u) else
     6 when not (unitOf u .rd) else
+    6 when hides (unitOf u .model) k o n hs else
     7 when unitOf u .rdpin && not (eqb read (unitOf u .read)) else
     8 when unitOf u .pn && not (same name (nameOf u)) else
     granted
@@ -68,6 +84,7 @@ slotRefuses Default o old bs = false
 slotRefuses WriteOnce o old bs = false
 slotRefuses Counter o old bs = not (all (eqb (o % 8) 0 ∷ eqb (length bs) 8 ∷ isNext old bs ∷ []))
 slotRefuses (Receiver g) o old bs = false
+slotRefuses (SharedKey g) o old bs = false
 
 unfoldable pub segmentWriteChecks : (write : ℕ) (name u : List ℕ) (o : ℕ) (old bs : List ℕ) → Checks
 segmentWriteChecks write name u o old bs =
@@ -94,6 +111,7 @@ isReceiver Default = false
 isReceiver WriteOnce = false
 isReceiver Counter = false
 isReceiver (Receiver g) = true
+isReceiver (SharedKey g) = false
 
 unfoldable pub pastStageZero : Model → Bool
 pastStageZero Default = false
@@ -102,6 +120,8 @@ pastStageZero Counter = false
 pastStageZero (Receiver Zero) = false
 pastStageZero (Receiver One) = true
 pastStageZero (Receiver Two) = true
+pastStageZero (SharedKey Filling) = false
+pastStageZero (SharedKey Inserted) = true
 
 unfoldable pub sameBool : Bool → Bool → Bool
 sameBool true b = b
@@ -117,7 +137,8 @@ keepsModel u w =
     ∷ eqb (byte 1 u) (byte 1 w)
     ∷ [])
 
--- the edit that turns `u` into `w`; "if it becomes model 3, its stage is 0"
+-- the edit that turns `u` into `w`; "if it becomes model 3, its stage is 0"; document 02, L4: "an edit's result holds it
+-- only at stage 0"
 unfoldable pub editAllowed : List ℕ → List ℕ → Bool
 editAllowed u w =
     all (
@@ -125,11 +146,13 @@ editAllowed u w =
     ∷ cond (isReceiver (unitOf u .model)) (keepsModel u w) (not (pastStageZero (unitOf w .model)))
     ∷ [])
 
-unfoldable pub editChecks : (edit : ℕ) (u w : List ℕ) → Checks
-editChecks edit u w =
+-- document 02, L4: "an edit of a listed segment's unit is refused 13"
+unfoldable pub editChecks : (edit : ℕ) (inList : Bool) (u w : List ℕ) → Checks
+editChecks edit inList u w =
     5 when not (wellFormed u) else
     6 when unitOf u .ne else
     7 when not (eqb edit (unitOf u .edit)) else
+    13 when inList else
     13 when not (editAllowed u w) else
     granted
 
@@ -143,6 +166,7 @@ canAdvance Counter = false
 canAdvance (Receiver Zero) = true
 canAdvance (Receiver One) = true
 canAdvance (Receiver Two) = false
+canAdvance (SharedKey g) = false
 
 unfoldable pub advanceChecks : (write : ℕ) (name u : List ℕ) → Checks
 advanceChecks write name u =
@@ -150,6 +174,61 @@ advanceChecks write name u =
     7 when unitOf u .wrpin && not (eqb write (unitOf u .write)) else
     8 when unitOf u .pn && not (same name (nameOf u)) else
     14 when not (canAdvance (unitOf u .model)) else
+    granted
+
+-- ---- document 02, L4, insertion of a host: "checked for a well-formed unit (5), WRPIN and PN as a write is, 14 if the
+-- segment isn't model 4 at stage 0, and refusal 19"; neither WR nor nE is looked at
+
+unfoldable pub isFilling : Model → Bool
+isFilling Default = false
+isFilling WriteOnce = false
+isFilling Counter = false
+isFilling (Receiver g) = false
+isFilling (SharedKey Filling) = true
+isFilling (SharedKey Inserted) = false
+
+unfoldable pub isInserted : Model → Bool
+isInserted Default = false
+isInserted WriteOnce = false
+isInserted Counter = false
+isInserted (Receiver g) = false
+isInserted (SharedKey Filling) = false
+isInserted (SharedKey Inserted) = true
+
+-- a row whose segment is "a well-formed model 4 at stage 1"
+unfoldable pub rowFits : List ℕ → Host → Bool
+rowFits t h =
+    all (
+    leb 1 (h .named)
+    ∷ leb (h .named) (segments t)
+    ∷ wellFormed (unitBytes t (h .named - 1))
+    ∷ isInserted (unitOf (unitBytes t (h .named - 1)) .model)
+    ∷ [])
+
+abbrev pub misfit : List ℕ → Host → Bool
+misfit t h = not (rowFits t h)
+
+-- 19: "a listed or zero id, a listed segment, a full list, or a list with a repeated id or segment or a row whose segment
+-- isn't a well-formed model 4 at stage 1". An id has 16 bytes; a call and a log give no other.
+unfoldable pub listRefuses : List ℕ → (k : ℕ) (id : List ℕ) → List Host → Bool
+listRefuses t k id hs =
+    not (all (
+    eqb (length id) 16
+    ∷ not (zeros id)
+    ∷ not (any (hasId id) hs)
+    ∷ not (listed k hs)
+    ∷ ltb (length hs) mostHosts
+    ∷ not (repeats hs)
+    ∷ not (any (misfit t) hs)
+    ∷ []))
+
+unfoldable pub insertChecks : (write : ℕ) (name : List ℕ) (t : List ℕ) (k : ℕ) (id : List ℕ) → Checks
+insertChecks write name t k id =
+    5 when not (wellFormed (unitBytes t k)) else
+    7 when unitOf (unitBytes t k) .wrpin && not (eqb write (unitOf (unitBytes t k) .write)) else
+    8 when unitOf (unitBytes t k) .pn && not (same name (nameOf (unitBytes t k))) else
+    14 when not (isFilling (unitOf (unitBytes t k) .model)) else
+    19 when listRefuses t k id (hosts t) else
     granted
 
 -- ---- registers
@@ -208,7 +287,9 @@ readChecks s Pins a n = never
 readChecks s Readers a n = granted
 readChecks s (UnitOf k) a n = unitReadChecks (unitBytes (s .tag) k) (a + n - unitAt k)
 readChecks s Spare a n = never
-readChecks s (Segment k) a n = segmentReadChecks (s .session .read) (s .session .name) (unitBytes (s .tag) k)
+readChecks s (Segment k) a n =
+    segmentReadChecks (s .session .read) (s .session .name) (unitBytes (s .tag) k) k
+    (a - segmentAt (segments (s .tag)) k) n (hosts (s .tag))
 readChecks s (Public k) a n = granted
 
 unfoldable pub writeChecks : Cipher → State → Place → ℕ → List ℕ → Checks
@@ -218,7 +299,7 @@ writeChecks E s (RegisterOf r) a bs = registerChecks E s r bs
 writeChecks E s Pins a bs = never
 writeChecks E s Readers a bs = never
 writeChecks E s (UnitOf k) a bs =
-    editChecks (s .session .edit) (unitBytes (s .tag) k) (unitBytes (put a bs (s .tag)) k)
+    editChecks (s .session .edit) (listed k (hosts (s .tag))) (unitBytes (s .tag) k) (unitBytes (put a bs (s .tag)) k)
 writeChecks E s Spare a bs = never
 writeChecks E s (Segment k) a bs =
     segmentWriteChecks (s .session .write) (s .session .name) (unitBytes (s .tag) k)

@@ -1,22 +1,25 @@
 -- All that is proved of the rules, in one record. Each line says of which ciphers, states and commands a claim holds;
--- the claims themselves stand in Demand3, Calls, Runs, CCalls, Claims, FourCommands and Examples. Assumes nothing.
+-- the claims themselves stand in Demand3, Calls, Runs, CCalls, Claims, SharedKeys, FourCommands and Examples. Assumes nothing.
 use Prim.Native.Nat.{ℕ, _<_}
 use mathlib.Core.Path.{_≡_}
 use mathlib.Core.Bool.{true}
 use mathlib.Core.List.{List}
-use mathlib.Core.Option.{some}
-use Rattle.rules.specs.Map.{sound, segments}
+use mathlib.Core.Option.{none, some}
+use Rattle.rules.specs.declared.Place.the-variants.{Segment}
+use Rattle.rules.specs.Map.{sound, segments, placeOf}
 use Rattle.rules.specs.Units.{unitOf, unitBytes}
 use Rattle.rules.specs.State.{Cipher, State}
-use Rattle.rules.specs.Command.{Command, refusal}
+use Rattle.rules.specs.Command.{Command, read, insert, refusal, after}
 use Rattle.rules.specs.Demand3.{Demand3, LogDemand3}
 use Rattle.rules.specs.Calls.{CallsFollow, CallsDemand3, RefusedLeaves, RefusedReads}
 use Rattle.rules.specs.Runs.{RunsDemand3, RunsLeave, RunsContinue}
 use Rattle.rules.specs.CCalls.{CalledIsCall, RunCalledIsRun, NothingLost, SessionFits}
 use Rattle.rules.specs.Claims.{LowestGiven, RefusalNamed, AnswersTold, RefusedChangesNothing, TheMap, NoSpare, Sizes, SoundStays, LockedUnit, MovesExact, PowerUpClears, OneAnswerEach, LogIsItsCommands}
+use Rattle.rules.specs.Refusals.{isSharedKey}
+use Rattle.rules.specs.SharedKeys.{ReadsListed, InsertionLeaves, ListGrows, UnitInserted, KeysShared, KeysRead}
 use Rattle.rules.specs.FourCommands.{HostReads}
-use Rattle.rules.specs.Examples.{starred, Hold, stages, errors, NotEmpty, RepeatsChange}
-use Rattle.rules.specs.Readings.{readings}
+use Rattle.rules.specs.Examples.{starred, insertions, Hold, stages, errors, NotEmpty, RepeatsChange}
+use Rattle.rules.specs.Readings.{readings, hostReadings}
 
 pub record Theorems : Type 0 where
   -- demand 3, for lists of commands and for log runs
@@ -49,7 +52,19 @@ pub record Theorems : Type 0 where
   pub sound-stays : (E : Cipher) (s : State) (c : Command) → sound (s .tag) ≡ true → SoundStays E s c
   pub locked-unit : (E : Cipher) (s : State) (k : ℕ) (c : Command) → sound (s .tag) ≡ true → k < segments (s .tag)
       → unitOf (unitBytes (s .tag) k) .ne ≡ true → LockedUnit E s k c
-  pub moves-exact : (b : ℕ) → b < 256 → MovesExact b
+  pub moves-exact : (b : ℕ) → MovesExact b
+  -- insertions of hosts (document 02, L4)
+  pub reads-listed : (E : Cipher) (s : State) (k a n room : ℕ) → refusal E s (read a n room) ≡ none
+      → placeOf (s .tag) a n ≡ some (Segment k) → isSharedKey (unitOf (unitBytes (s .tag) k) .model) ≡ true
+      → ReadsListed E s k a n room
+  pub insertion-leaves : (E : Cipher) (s : State) (k : ℕ) (id : List ℕ) → refusal E s (insert k id) ≡ none
+      → InsertionLeaves E s k id
+  pub list-grows : (E : Cipher) (s : State) (k : ℕ) (id : List ℕ) → refusal E s (insert k id) ≡ none
+      → ListGrows (s .tag) (after E s (insert k id) .tag) k id
+  pub unit-inserted : (E : Cipher) (s : State) (k : ℕ) (id : List ℕ) → refusal E s (insert k id) ≡ none
+      → UnitInserted (unitBytes (s .tag) k) (unitBytes (after E s (insert k id) .tag) k)
+  pub keys-shared : (E : Cipher) (s : State) (k : ℕ) (id : List ℕ) → refusal E s (insert k id) ≡ none → KeysShared E s k id
+  pub keys-read : (E : Cipher) (s : State) (k : ℕ) (id : List ℕ) → refusal E s (insert k id) ≡ none → KeysRead E s k id
   -- the session
   pub power-up-clears : (E : Cipher) (s : State) → PowerUpClears E s
   pub host-reads : HostReads
@@ -60,6 +75,8 @@ pub record Theorems : Type 0 where
   pub starred-hold : Hold starred
   pub stages-hold : Hold stages
   pub errors-shown : Hold errors
+  pub insertions-hold : Hold insertions
   pub readings-hold : Hold readings
+  pub host-readings-hold : Hold hostReadings
   pub not-empty : NotEmpty
   pub repeats-change : RepeatsChange

@@ -5,8 +5,10 @@ use mathlib.Core.List.{List, [], _∷_}
 use lib.Dec.{eqb, leb}
 use Rattle.rules.specs.declared.Stage.{Stage}
 use Rattle.rules.specs.declared.Stage.the-variants.{Zero, One, Two}
+use Rattle.rules.specs.declared.KeyStage.{KeyStage}
+use Rattle.rules.specs.declared.KeyStage.the-variants.{Filling, Inserted}
 use Rattle.rules.specs.declared.Model.{Model}
-use Rattle.rules.specs.declared.Model.the-variants.{Default, WriteOnce, Counter, Receiver}
+use Rattle.rules.specs.declared.Model.the-variants.{Default, WriteOnce, Counter, Receiver, SharedKey}
 use Rattle.rules.specs.declared.Unit.{Unit}
 use Rattle.rules.specs.Bytes.{part, byte, number, zeros, all}
 use Rattle.rules.specs.Map.{unitAt}
@@ -38,11 +40,18 @@ stageOf zero = Zero
 stageOf (suc zero) = One
 stageOf (suc (suc n)) = Two
 
-unfoldable pub modelOf : ℕ → Stage → Model
+-- of model 4
+unfoldable pub keyStageOf : ℕ → KeyStage
+keyStageOf zero = Filling
+keyStageOf (suc n) = Inserted
+
+-- a model number and a stage number
+unfoldable pub modelOf : ℕ → ℕ → Model
 modelOf zero g = Default
 modelOf (suc zero) g = WriteOnce
 modelOf (suc (suc zero)) g = Counter
-modelOf (suc (suc (suc n))) g = Receiver g
+modelOf (suc (suc (suc zero))) g = Receiver (stageOf g)
+modelOf (suc (suc (suc (suc n)))) g = SharedKey (keyStageOf g)
 
 -- "A unit read from memory is a record whose model carries its own stage." "With M clear byte 1 is ignored and the
 -- default model holds." Of an ill-formed unit it decides nothing, since 5 comes first.
@@ -55,7 +64,7 @@ unitOf u =
       wrpin = bit 4 (byte 0 u);
       pn = bit 3 (byte 0 u);
       ne = bit 2 (byte 0 u);
-      model = cond (modelled u) (modelOf (modelNo u) (stageOf (stageNo u))) Default;
+      model = cond (modelled u) (modelOf (modelNo u) (stageNo u)) Default;
       read = number (part 4 2 u);
       write = number (part 6 2 u);
       edit = number (part 8 2 u);
@@ -65,13 +74,15 @@ unitOf u =
 unfoldable pub nameOf : List ℕ → List ℕ
 nameOf u = part 16 16 u
 
--- "and, with M set": model and stage number, RD and WR
+-- "and, with M set": model and stage number, RD and WR. Document 02, L4: "Model 4 is well formed only in these two states":
+-- "stage 0, WR only", and "stage 1, RD only"
 unfoldable pub modelFits : (model stage : ℕ) (rd wr : Bool) → Bool
 modelFits zero g rd wr = eqb g 0
 modelFits (suc zero) g rd wr = eqb g 0 && (rd && not wr || not rd && wr)
 modelFits (suc (suc zero)) g rd wr = eqb g 0 && rd && wr
 modelFits (suc (suc (suc zero))) g rd wr = leb g 1 && not rd && wr || eqb g 2 && rd && not wr
-modelFits (suc (suc (suc (suc n)))) g rd wr = false
+modelFits (suc (suc (suc (suc zero)))) g rd wr = eqb g 0 && not rd && wr || eqb g 1 && rd && not wr
+modelFits (suc (suc (suc (suc (suc n))))) g rd wr = false
 
 -- "Well formed: RFU and the zero bytes are 0; indexes at most 255; .."
 unfoldable pub formedness : List ℕ → List Bool

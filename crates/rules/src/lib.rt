@@ -18,12 +18,19 @@ pub enum Stage {
     Two,
 }
 
-/// A segment's model, 0 to 3: "a record whose model carries its own stage".
+/// The stages of model 4: before and after the insertion of the host that owns the segment.
+pub enum KeyStage {
+    Filling,
+    Inserted,
+}
+
+/// A segment's model, 0 to 4: "a record whose model carries its own stage".
 pub enum Model {
     Default,
     WriteOnce,
     Counter,
     Receiver(Stage),
+    SharedKey(KeyStage),
 }
 
 /// A unit, without its name: control bits, model, and the read, write and edit PIN index.
@@ -64,7 +71,7 @@ pub enum Place {
     Public(usize),
 }
 
-/// The refusals 1 to 16, in the order of their numbers.
+/// The refusals 1 to 16 and 19, in the order of their numbers.
 pub enum Refusal {
     Unsound,
     Count,
@@ -79,9 +86,10 @@ pub enum Refusal {
     WrongResponse,
     NotNext,
     BadEdit,
-    NoAdvance,
+    OtherModel,
     Unreadable,
     NoRoom,
+    BadInsertion,
 }
 
 /// What a command answers. The bytes of a granted read stand in its output.

@@ -20,7 +20,7 @@ use Rattle.rules.specs.Bytes.{byte, put}
 use Rattle.rules.specs.Map.{sound}
 use Rattle.rules.specs.Answers.{stopNumber}
 use Rattle.rules.specs.State.{State, state}
-use Rattle.rules.specs.Command.{Command, read, write, advance, powerUp, refused, reply, after}
+use Rattle.rules.specs.Command.{Command, read, write, advance, insert, powerUp, refused, reply, after}
 use Rattle.rules.specs.Log.{Ran, first, encoded, roomFor, stopped, onward, runLog}
 use Rattle.rules.specs.Runs.{returned, Result, result, resultOf, runOver}
 use Rattle.rules.proofs.BytesLaws.{length-put, put-append, put-none}
@@ -44,6 +44,7 @@ unsound-stays : (s : State) (c : Command) → sound (s .tag) ≡ false → after
 unsound-stays s (read a n room) e = sym (ap (λ x. x .tag) (unsound s (read a n room) tt e .left))
 unsound-stays s (write a bs) e = sym (ap (λ x. x .tag) (unsound s (write a bs) tt e .left))
 unsound-stays s (advance k) e = sym (ap (λ x. x .tag) (unsound s (advance k) tt e .left))
+unsound-stays s (insert k id) e = sym (ap (λ x. x .tag) (unsound s (insert k id) tt e .left))
 unsound-stays s powerUp e = power-up-clears E s .same-tag
 
 sound-same : (s : State) (c : Command) → sound (s .tag) ≡ sound (after E s c .tag)
@@ -94,6 +95,7 @@ room-asked log at next.PowerUp = refl
 room-asked log at (next.Read a n) = refl
 room-asked log at (next.Write a n) = refl
 room-asked log at (next.Advance k) = refl
+room-asked log at (next.Insert k) = refl
 room-asked log at next.Unreadable = refl
 
 -- a reply fits the room that was asked for
@@ -115,16 +117,17 @@ record Takes (q : Option (Command × ℕ)) (k : ℕ) : Type 0 where
   comes : q ≡ some (command, body)
   takes : k ≡ 1 + body
 
-takes : (log : List ℕ) (at : ℕ) (x : Next) → OneOf (0 ∷ 1 ∷ 2 ∷ 3 ∷ []) (tagOf the-next.the-type x)
+takes : (log : List ℕ) (at : ℕ) (x : Next) → OneOf (0 ∷ 1 ∷ 2 ∷ 3 ∷ 4 ∷ []) (tagOf the-next.the-type x)
     → Takes (commandAt log at x) (lengthOf x)
 takes log at next.PowerUp h = record { command = _; body = _; comes = refl; takes = refl }
 takes log at (next.Read a n) h = record { command = _; body = _; comes = refl; takes = refl }
 takes log at (next.Write a n) h = record { command = _; body = _; comes = refl; takes = omega arith }
 takes log at (next.Advance k) h = record { command = _; body = _; comes = refl; takes = refl }
-takes log at next.Unreadable h = absurd (miss (0 ∷ 1 ∷ 2 ∷ 3 ∷ []) 4 tt h)
+takes log at (next.Insert k) h = record { command = _; body = _; comes = refl; takes = refl }
+takes log at next.Unreadable h = absurd (miss (0 ∷ 1 ∷ 2 ∷ 3 ∷ 4 ∷ []) 5 tt h)
 
 -- a command takes a byte at least
-pub falls : (log : List ℕ) (i : ℕ) (x : Next) (k : ℕ) → OneOf (0 ∷ 1 ∷ 2 ∷ 3 ∷ []) (tagOf the-next.the-type x)
+pub falls : (log : List ℕ) (i : ℕ) (x : Next) (k : ℕ) → OneOf (0 ∷ 1 ∷ 2 ∷ 3 ∷ 4 ∷ []) (tagOf the-next.the-type x)
     → i < length log → k ≡ lengthOf x → length log - (i + k) < length log - i
 falls log i x k d h e = let t : k ≡ 1 + takes log i x d .body = e ∙ takes log i x d .takes in omega arith
 
@@ -204,7 +207,7 @@ stops-15 goal log tested t out u ys v i j x r q g h n e l p d =
 -- or goes on behind a command
 pub goes-on : (goal : Result) (log : List ℕ) (tested : Bool) (t out u ys : List ℕ) (v : Session) (i j : ℕ) (x : Next) (r : Replied)
     → Going goal log tested t out v i j → i < length log → ComesNext log i x
-    → OneOf (0 ∷ 1 ∷ 2 ∷ 3 ∷ []) (tagOf the-next.the-type x)
+    → OneOf (0 ∷ 1 ∷ 2 ∷ 3 ∷ 4 ∷ []) (tagOf the-next.the-type x)
     → roomOf x ≤ length out - j → Replies E (state t v) (commandAt log i x) (midOf j (length out - j) out) u ys r
     → Going goal log tested u (putMid j (length out - j) out ys) (r .session) (i + lengthOf x) (j + r .written)
 goes-on goal log tested t out u ys v i j x r g h n d l p =

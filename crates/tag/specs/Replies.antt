@@ -4,9 +4,12 @@ use mathlib.Core.Path.{_≡_}
 use mathlib.Core.List.{List}
 use mathlib.Core.Option.{Option, none, some}
 use lib.ListN.{length}
+use Rattle.rules.specs.declared.Answer.{Answer}
+use Rattle.rules.specs.declared.Session.{Session}
 use Rattle.rules.specs.Bytes.{put}
 use Rattle.rules.specs.State.{Cipher, State, state}
-use Rattle.rules.specs.Command.{Command, Reply, refused, reply, after}
+use Rattle.rules.specs.Command.{Command, Reply, done, refused, reply, after}
+use Rattle.rules.specs.Calls.{replyOf}
 use Rattle.rules.specs.Log.{encoded}
 use Rattle.tag.specs.declared.Replied.{Replied}
 
@@ -23,6 +26,11 @@ afterFor E s (some x) = after E s (x .0)
 pub record Written (r : Reply) (out o : List ℕ) (n : ℕ) : Type 0 where
   pub bytes : o ≡ put 0 (encoded r) out
   pub count : n ≡ length (encoded r)
+
+-- the answer a, replied so, and the session v: x is handed back
+pub record Answered (a : Answer) (v : Session) (out o : List ℕ) (x : Replied) : Type 0 where
+  pub written : Written (replyOf a done) out o (x .written)
+  pub session : x .session ≡ v
 
 -- the command that comes next, carried out on the state s and replied to: x is handed back, and the tag t and the
 -- output o are left

@@ -12,7 +12,7 @@ ghost use Rattle.rules.specs.Calls.{CarriedOut};
 ghost use Rattle.rules.specs.Runs.{returned, result, runOver};
 ghost use Rattle.xxtea.specs.Block.{E};
 ghost use Rattle.command_log.specs.Next.{ComesNext, commandAt, roomOf};
-ghost use Rattle.tag.specs.Replies.{Written, Replies};
+ghost use Rattle.tag.specs.Replies.{Answered, Written, Replies};
 use command_log::Next;
 use rules::Answer;
 use rules::Outcome;
@@ -64,6 +64,15 @@ pub fn advance(tag: &mut [u8], session: Session, segment: usize) -> Outcome
     Outcome { answer, session }
 }
 
+// The insertion of a host with this id, whose segment this is: document 02, L4.
+pub fn insert(tag: &mut [u8], session: Session, segment: usize, id: [u8; 16]) -> Outcome
+    ensures { λ r. ⌜ CarriedOut E (state (now (tag .entry)) session) (command.insert segment id) (now (tag .exit)) r ⌝ }
+{
+    let tested = layout::sound(tag);
+    let answer = commands::insert(tag, tested, session, segment, id);
+    Outcome { answer, session }
+}
+
 // ---- runs over a log
 
 // A read: its bytes go straight into the output, behind the reply's code.
@@ -89,6 +98,17 @@ struct Replied {
     session: Session,
 }
 
+// The reply to a command that gives no bytes, and the session after it.
+fn reply_with(output: &mut [u8], answer: Answer, session: Session) -> Replied
+    requires { ⌜ 2 ≤ length (now output) ⌝ }
+    ensures { λ r. ⌜ Answered answer session (now (output .entry)) (now (output .exit)) r ⌝ }
+{
+    Replied {
+        written: command_log::put_answer(output, answer),
+        session,
+    }
+}
+
 // Carries out what comes next at a byte of the log, and puts its reply at the start of the output. A 15 is replied too.
 fn reply_to(
     tag: &mut [u8],
@@ -103,10 +123,7 @@ fn reply_to(
     ensures { λ r. ⌜ Replies E (state (now (tag .entry)) session) (commandAt (now (log .entry)) at next) (now (output .entry)) (now (tag .exit)) (now (output .exit)) r ⌝ }
 {
     match next {
-        Next::PowerUp => Replied {
-            written: command_log::put_answer(output, Answer::Done),
-            session: power_up(),
-        },
+        Next::PowerUp => reply_with(output, Answer::Done, power_up()),
         Next::Read(address, count) => Replied {
             written: reply_read(tag, tested, session, address, count, output),
             session,
@@ -117,22 +134,20 @@ fn reply_to(
             let outcome = commands::write(tag, tested, session, address, &log[start..end]);
             let answer = outcome.answer;
             let after = outcome.session;
-            Replied {
-                written: command_log::put_answer(output, answer),
-                session: after,
-            }
+            reply_with(output, answer, after)
         }
         Next::Advance(segment) => {
             let answer = commands::advance(tag, tested, session, segment);
-            Replied {
-                written: command_log::put_answer(output, answer),
-                session,
-            }
+            reply_with(output, answer, session)
         }
-        Next::Unreadable => Replied {
-            written: command_log::put_answer(output, Answer::Refused(Refusal::Unreadable)),
-            session,
-        },
+        Next::Insert(segment) => {
+            let start = at + 3;
+            let end = start + 16;
+            let host = octets::sixteen(&log[start..end]);
+            let answer = commands::insert(tag, tested, session, segment, host);
+            reply_with(output, answer, session)
+        }
+        Next::Unreadable => reply_with(output, Answer::Refused(Refusal::Unreadable), session),
     }
 }
 

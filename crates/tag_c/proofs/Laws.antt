@@ -1,24 +1,24 @@
 -- The laws that the functions of `tag_c` cite: the session's bytes, and a call by its answer and its session. Assumes
 -- nothing.
-use Prim.Native.Nat.{ℕ, _+_, _/_, _%_}
+use Prim.Native.Nat.{ℕ, _+_}
 use mathlib.Core.Path.{_≡_, refl, sym, ap, subst, _∙_}
-use mathlib.Core.List.{List, [], _∷_, _++_, flatten}
+use mathlib.Core.List.{List, _++_, flatten}
 use mathlib.Core.Option.{Option, none, some}
 use native.Mathlib.Omega.{arith}
-use lib.ListN.{length, set, length-append}
+use lib.ListN.{length, replicate, length-append}
 use Rattle.rules.specs.declared.Session.{Session}
 use Rattle.rules.specs.declared.Outcome.{Outcome}
 use Rattle.rules.specs.declared.Run.{Run}
 use Rattle.rules.specs.Bytes.{part, put, number, bytesOf}
 use Rattle.rules.specs.State.{State, state}
 use Rattle.rules.specs.Answers.{refusalOf, stopNumber, codeOf}
-use Rattle.rules.specs.Command.{Command, refusal, after, afterBy, newSession}
+use Rattle.rules.specs.Command.{Command, insert, refusal, after, afterBy, newSession}
 use Rattle.rules.specs.Calls.{CarriedOut}
 use Rattle.rules.specs.Runs.{result, runOver}
 use Rattle.rules.specs.CCalls.{sessionOf, sessionBytes, Called, RunCalled, Fits}
 use Rattle.rules.proofs.BytesLaws.{put-append, put-none, length-bytesOf}
 use Rattle.rules.proofs.CCalls.{nothing-lost, session-fits}
-use Rattle.octets.proofs.Laws.{set-put, put-whole}
+use Rattle.octets.proofs.Laws.{block-whole, put-whole}
 use Rattle.xxtea.specs.Block.{E}
 use Rattle.tag_c.specs.Lent.{Lent}
 
@@ -31,12 +31,6 @@ unfolding sessionOf
 session-read b r w e n i p fr fw fe fn fi fp = rw (fr, fw, fe, fn, fi, fp)
 
 -- ---- the session's bytes, stored one part behind another
-
-pub index-put : (a i : ℕ) (t : List ℕ) → set (set t a (i / 256 % 256)) (a + 1) (i % 256) ≡ put a (bytesOf 2 i) t
-unfolding bytesOf
-index-put a i t =
-    rw (set-put a (i / 256 % 256) t, set-put (a + 1) (i % 256) (put a (i / 256 % 256 ∷ []) t))
-    (sym (put-append a (i / 256 % 256 ∷ []) (i % 256 ∷ []) t))
 
 -- a part behind one that is stored already
 behind : (a n : ℕ) (xs ys t u : List ℕ) → length xs ≡ n → u ≡ put a xs t → put (a + n) ys u ≡ put a (xs ++ ys) t
@@ -90,6 +84,14 @@ leaves-session t u b v c n o l f k e h =
     let g : o .session ≡ sessionOf b = ap (λ x. x .session) (h .left) ∙ session-stays (state t v) c k ∙ f in
     subst (λ x. Called E (state t x) c n u b) f
     (called _ c u b n o e h (sym g) (sym (nothing-lost .bytes-back b (l .size) (l .bytes)) ∙ ap sessionBytes (sym g)))
+
+-- an insertion with an id that is lent
+pub inserts : (t u b : List ℕ) (v : Session) (k : ℕ) (id host : List ℕ) (n : ℕ) (o : Outcome) → Lent b → v ≡ sessionOf b
+    → host ≡ put 0 id (replicate 16 0) → length id ≡ 16 → n ≡ codeOf (refusalOf (o .answer))
+    → CarriedOut E (state t v) (insert k host) u o → Called E (state t (sessionOf b)) (insert k id) n u b
+inserts t u b v k id host n o l f q w e h =
+    subst (λ x. Called E (state t (sessionOf b)) (insert k x) n u b) (q ∙ block-whole id w)
+    (leaves-session t u b v (insert k host) n o l f (unfold newSession in refl) e h)
 
 -- a session that is kept is there for the next call
 kept-session : (d : List ℕ) (v : Session) → Fits v → d ≡ sessionBytes v → sessionOf d ≡ v

@@ -2,9 +2,7 @@
 // session is 54 lent bytes, and an answer is its refusal number, 0 where the command is granted. The definitions that
 // the contracts cite are in `rules`, CCalls.antt: with the same rules and cipher as the contracts of `tag`.
 ghost use mathlib.Core.Path.{_≡_};
-ghost use Prim.Native.Nat.{_+_, _≤_};
 ghost use lib.ListN.{length};
-ghost use Rattle.rules.specs.Bytes.{put, bytesOf};
 ghost use Rattle.rules.specs.State.{state, poweredUp};
 ghost use Rattle.rules.specs.Answers.{refusalOf, stopNumber, codeOf};
 ghost use Rattle.rules.specs.Command.{reply, filled};
@@ -31,15 +29,6 @@ fn session_of(bytes: &[u8]) -> Session
     }
 }
 
-// An index as two bytes at an address.
-fn put_index(bytes: &mut [u8], at: usize, index: usize)
-    requires { ⌜ at + 2 ≤ length (now bytes) ⌝ }
-    ensures { λ _. ⌜ now (bytes .exit) ≡ put at (bytesOf 2 index) (now (bytes .entry)) ⌝ }
-{
-    bytes[at] = (index / 256 % 256) as u8;
-    bytes[at + 1] = (index % 256) as u8;
-}
-
 // The 54 bytes become the session's.
 fn keep(bytes: &mut [u8; 54], session: Session)
     ensures { λ _. ⌜ now (bytes .exit) ≡ sessionBytes session ⌝ }
@@ -47,9 +36,9 @@ fn keep(bytes: &mut [u8; 54], session: Session)
     let name = session.name;
     let id = session.id;
     let pa = session.pa;
-    put_index(bytes, 0, session.read);
-    put_index(bytes, 2, session.write);
-    put_index(bytes, 4, session.edit);
+    octets::store16(bytes, 0, session.read);
+    octets::store16(bytes, 2, session.write);
+    octets::store16(bytes, 4, session.edit);
     octets::store_at(bytes, 6, &name);
     octets::store_at(bytes, 22, &id);
     octets::store_at(bytes, 38, &pa);
@@ -121,6 +110,22 @@ pub extern "C" fn dringoleth_advance(tag: &mut [u8], session: &[u8; 54], segment
 {
     let before = session_of(session);
     let outcome = tag::advance(tag, before, segment);
+    let answer = outcome.answer;
+    number_of(answer)
+}
+
+#[no_mangle]
+pub extern "C" fn dringoleth_insert(
+    tag: &mut [u8],
+    session: &[u8; 54],
+    segment: usize,
+    id: &[u8; 16],
+) -> u8
+    ensures { λ r. ⌜ Called E (state (now (tag .entry)) (sessionOf (now (session .entry)))) (command.insert segment (now (id .entry))) r (now (tag .exit)) (now (session .entry)) ⌝ }
+{
+    let before = session_of(session);
+    let host = octets::sixteen(id);
+    let outcome = tag::insert(tag, before, segment, host);
     let answer = outcome.answer;
     number_of(answer)
 }

@@ -1,5 +1,5 @@
 -- What the bytes of a well-formed unit say, and what callers learn of a decoded one.
-use Prim.Native.Nat.{ℕ, zero, suc, _+_, _*_, _/_, _%_, _<_}
+use Prim.Native.Nat.{ℕ, zero, suc, _+_, _*_, _/_, _%_, _≤_, _<_}
 use mathlib.Core.Path.{_≡_, refl, sym, ap, subst, _∙_}
 use mathlib.Core.Logic.{_≢_}
 use mathlib.Core.Bool.{Bool, true, false, _&&_, _||_, not, cond, and-assoc, and-true as and-right, and-false, or-false}
@@ -8,27 +8,31 @@ use native.Mathlib.Omega.{arith}
 use native.Mathlib.Nat.{mod-lt, mod-eq-of-lt}
 use types.Run.{OneOf, miss}
 use denote.Enum.Declared.{tagOf}
-use lib.ListN.{set}
+use lib.ListN.{length, set}
 use lib.Seq.{set-getD}
 use lib.Dec.{eqb}
 use borrow.Author.Tests.{eq-eqb, ne-eqb, lt-leb, not-true}
 use Rattle.rules.specs.declared.Stage.{Stage}
 use Rattle.rules.specs.declared.Stage.the-variants.{Zero, One, Two}
+use Rattle.rules.specs.declared.KeyStage.the-variants.{Filling}
 use Rattle.rules.specs.declared.Model.{Model}
-use Rattle.rules.specs.declared.Model.the-variants.{Default, WriteOnce, Counter, Receiver}
+use Rattle.rules.specs.declared.Model.the-variants.{Default, WriteOnce, Counter, Receiver, SharedKey}
 use Rattle.rules.specs.declared.Unit.{Unit}
 use Rattle.rules.specs.Bytes.{byte, all, put}
 use Rattle.rules.specs.Units.{bit, modelled, modelNo, stageNo, modelFits, modelOf, stageOf}
-use Rattle.rules.specs.Units.{wellFormed, formedness, unitOf}
-use Rattle.rules.specs.Refusals.{isReceiver, pastStageZero, sameBool, keepsModel, editAllowed}
-use Rattle.rules.specs.Effects.{readOnly, advanced}
+use Rattle.rules.specs.Units.{wellFormed, formedness, unitOf, unitBytes}
+use Rattle.rules.specs.Map.{unitAt}
+use Rattle.rules.specs.Refusals.{isReceiver, isSharedKey, isFilling, isInserted, pastStageZero, sameBool, keepsModel, editAllowed}
+use Rattle.rules.specs.Effects.{readOnly, advanced, inserted}
 use Rattle.rules.proofs.Model as the-model
 use Rattle.rules.proofs.Tests.{true-false, and-true}
 use Rattle.rules.proofs.Moves.{bit-set, bit-clear}
-use Rattle.octets.proofs.Laws.{put-two}
+use Rattle.rules.proofs.HostUnits.{filling-fields}
+use Rattle.rules.proofs.BytesLaws.{byte-part}
+use Rattle.octets.proofs.Laws.{put-two, length-lent}
 use Rattle.units.specs.declared.Decoded.the-variants.{Unit as Whole, Malformed}
 use Rattle.units.specs.declared.ModelRead.the-variants.{Known, Unknown}
-use Rattle.units.specs.Decoded.{decoded, known, bothFit, modelRead, bytesFit, unitWith, mayBecome, opened, movedTo}
+use Rattle.units.specs.Decoded.{decoded, known, bothFit, modelRead, bytesFit, unitWith, mayBecome, opened, movedTo, readMoved}
 
 clash : {A : Type 0} → _≡_ {A = ℕ} 0 1 → A
 clash e = absurd (omega arith)
@@ -80,21 +84,36 @@ model-default control b e = rw (low-bit control, ne-eqb _ _ e)
 -- with M set
 pub model-named : (control b : ℕ) → control % 2 ≡ 1
     → modelRead control b
-    ≡ known (modelFits (b % 16) (b / 16) (bit 7 control) (bit 5 control)) (modelOf (b % 16) (stageOf (b / 16)))
+    ≡ known (modelFits (b % 16) (b / 16) (bit 7 control) (bit 5 control)) (modelOf (b % 16) (b / 16))
 unfolding modelRead bothFit
 model-named control b e = rw (low-bit control, eq-eqb _ _ e)
 
 -- a byte that names no model, as a `match` says it
 abbrev pub Nameless : ℕ → Type 0
-Nameless b = (((((Prim.Unit × (b ≢ 0x00)) × (b ≢ 0x01)) × (b ≢ 0x02)) × (b ≢ 0x03)) × (b ≢ 0x13)) × (b ≢ 0x23)
+Nameless b =
+    (((((((Prim.Unit × (b ≢ 0x00)) × (b ≢ 0x01)) × (b ≢ 0x02)) × (b ≢ 0x03)) × (b ≢ 0x13)) × (b ≢ 0x23)) × (b ≢ 0x04))
+    × (b ≢ 0x14)
+
+-- another byte of the same model has another stage
+other-stage : (m g c : ℕ) → m + 16 * g ≢ m + 16 * c → g ≢ c
+other-stage m g c h e = h (ap (λ x. m + 16 * x) e)
+
+above-one : (g : ℕ) → g ≢ 0 → g ≢ 1 → 1 < g
+above-one g a b = omega arith
 
 fits-none : (m g : ℕ) (rd wr : Bool) → Nameless (m + 16 * g) → modelFits m g rd wr ≡ false
 unfolding modelFits
-fits-none zero g rd wr n = ne-eqb g 0 (omega arith)
-fits-none (suc zero) g rd wr n = rw (ne-eqb g 0 (omega arith))
-fits-none (suc (suc zero)) g rd wr n = rw (ne-eqb g 0 (omega arith))
-fits-none (suc (suc (suc zero))) g rd wr n = rw (lt-leb g 1 (omega arith), ne-eqb g 2 (omega arith))
-fits-none (suc (suc (suc (suc m)))) g rd wr n = refl
+fits-none zero g rd wr n = ne-eqb g 0 (other-stage 0 g 0 (n .0 .0 .0 .0 .0 .0 .0 .1))
+fits-none (suc zero) g rd wr n = rw (ne-eqb g 0 (other-stage 1 g 0 (n .0 .0 .0 .0 .0 .0 .1)))
+fits-none (suc (suc zero)) g rd wr n = rw (ne-eqb g 0 (other-stage 2 g 0 (n .0 .0 .0 .0 .0 .1)))
+fits-none (suc (suc (suc zero))) g rd wr n =
+    rw (
+      lt-leb g 1 (above-one g (other-stage 3 g 0 (n .0 .0 .0 .0 .1)) (other-stage 3 g 1 (n .0 .0 .0 .1))),
+      ne-eqb g 2 (other-stage 3 g 2 (n .0 .0 .1)),
+    )
+fits-none (suc (suc (suc (suc zero)))) g rd wr n =
+    rw (ne-eqb g 0 (other-stage 4 g 0 (n .0 .1)), ne-eqb g 1 (other-stage 4 g 1 (n .1)))
+fits-none (suc (suc (suc (suc (suc m))))) g rd wr n = refl
 
 pub model-none : (control b : ℕ) → control % 2 ≡ 1 → Nameless b → modelRead control b ≡ Unknown
 model-none control b e n =
@@ -155,14 +174,33 @@ decoded-malformed u e = by (wellFormed u) e
 
 -- ---- edits
 
--- the variants of `Model` that stand before `Receiver`
-pub no-receiver : (m : Model) → OneOf (0 ∷ 1 ∷ 2 ∷ []) (tagOf the-model.the-type m)
-    → (isReceiver m ≡ false) × (pastStageZero m ≡ false)
-unfolding isReceiver pastStageZero
-no-receiver Default o = (refl, refl)
-no-receiver WriteOnce o = (refl, refl)
-no-receiver Counter o = (refl, refl)
-no-receiver (Receiver g) o = absurd (miss (0 ∷ 1 ∷ 2 ∷ []) 3 tt o)
+-- the variants of `Model` but `Receiver`
+pub no-receiver : (m : Model) → OneOf (0 ∷ 1 ∷ 2 ∷ 4 ∷ []) (tagOf the-model.the-type m) → isReceiver m ≡ false
+unfolding isReceiver
+no-receiver Default o = refl
+no-receiver WriteOnce o = refl
+no-receiver Counter o = refl
+no-receiver (Receiver g) o = absurd (miss (0 ∷ 1 ∷ 2 ∷ 4 ∷ []) 3 tt o)
+no-receiver (SharedKey g) o = refl
+
+-- and by one for `SharedKey`
+pub not-shared : (m : Model) → OneOf (0 ∷ 1 ∷ 2 ∷ 3 ∷ []) (tagOf the-model.the-type m)
+    → (isSharedKey m ≡ false) × (isFilling m ≡ false) × (isInserted m ≡ false)
+unfolding isSharedKey isFilling isInserted
+not-shared Default o = (refl, refl, refl)
+not-shared WriteOnce o = (refl, refl, refl)
+not-shared Counter o = (refl, refl, refl)
+not-shared (Receiver g) o = (refl, refl, refl)
+not-shared (SharedKey g) o = absurd (miss (0 ∷ 1 ∷ 2 ∷ 3 ∷ []) 4 tt o)
+
+-- those without a stage
+pub no-stage : (m : Model) → OneOf (0 ∷ 1 ∷ 2 ∷ []) (tagOf the-model.the-type m) → pastStageZero m ≡ false
+unfolding pastStageZero
+no-stage Default o = refl
+no-stage WriteOnce o = refl
+no-stage Counter o = refl
+no-stage (Receiver g) o = absurd (miss (0 ∷ 1 ∷ 2 ∷ []) 3 tt o)
+no-stage (SharedKey g) o = absurd (miss (0 ∷ 1 ∷ 2 ∷ []) 4 tt o)
 
 pub edit-allowed-is : (u w : List ℕ) (x : Unit) → decoded w ≡ Whole x
     → editAllowed u w ≡ cond (isReceiver (unitOf u .model)) (keepsModel u w) (mayBecome (x .model))
@@ -184,26 +222,27 @@ read-model true f m n w e d = (w, e)
 
 model-fits : (u : List ℕ) (n : Model) → wellFormed u ≡ true → unitOf u .model ≡ n → n ≢ Default
     → (modelFits (modelNo u) (stageNo u) (unitOf u .rd) (unitOf u .wr) ≡ true)
-    × (modelOf (modelNo u) (stageOf (stageNo u)) ≡ n)
+    × (modelOf (modelNo u) (stageNo u) ≡ n)
 unfolding unitOf bothFit
 model-fits u n w e d =
     read-model (modelled u) _ _ n (and-true (bytesFit u) _ (sym (well-formed-is u) ∙ w) .1) e d
 
-once-fits : (m g : ℕ) (s : Stage) (rd wr : Bool) → modelFits m g rd wr ≡ true → modelOf m s ≡ WriteOnce → wr ≡ true
+once-fits : (m g s : ℕ) (rd wr : Bool) → modelFits m g rd wr ≡ true → modelOf m s ≡ WriteOnce → wr ≡ true
     → rd ≡ false
 unfolding modelFits modelOf
 once-fits zero g s rd wr f e h = clash (cc)
 once-fits (suc zero) g s false wr f e h = refl
 once-fits (suc zero) g s true wr f e h = true-false (sym (rw h at (and-true (eqb g 0) (not wr || false) f .1)))
 once-fits (suc (suc zero)) g s rd wr f e h = clash (cc)
-once-fits (suc (suc (suc m))) g s rd wr f e h = clash (cc)
+once-fits (suc (suc (suc zero))) g s rd wr f e h = clash (cc)
+once-fits (suc (suc (suc (suc m)))) g s rd wr f e h = clash (cc)
 
 -- a unit of model 1 that can be written cannot be read
 pub once-writable : (u : List ℕ) → wellFormed u ≡ true → unitOf u .model ≡ WriteOnce → unitOf u .wr ≡ true
     → unitOf u .rd ≡ false
 once-writable u w e h =
     let x = model-fits u WriteOnce w e (λ d. clash (cc)) in
-    once-fits (modelNo u) (stageNo u) (stageOf (stageNo u)) _ _ (x .0) (x .1) h
+    once-fits (modelNo u) (stageNo u) (stageNo u) _ _ (x .0) (x .1) h
 
 -- the stage number, RD and WR of model 3 at a stage
 abbrev Stands : Stage → ℕ → Bool → Bool → Type 0
@@ -222,7 +261,7 @@ receiver-stands (suc (suc zero)) rd wr f =
 receiver-stands (suc (suc (suc g))) rd wr f =
     true-false (sym f ∙ rw (lt-leb (suc (suc (suc g))) 1 (omega arith), ne-eqb (suc (suc (suc g))) 2 (omega arith)))
 
-receiver-fits : (m g : ℕ) (s : Stage) (rd wr : Bool) → modelFits m g rd wr ≡ true → modelOf m (stageOf g) ≡ Receiver s
+receiver-fits : (m g : ℕ) (s : Stage) (rd wr : Bool) → modelFits m g rd wr ≡ true → modelOf m g ≡ Receiver s
     → (m ≡ 3) × Stands s g rd wr
 unfolding modelOf
 receiver-fits zero g s rd wr f e = clash (cc)
@@ -230,13 +269,25 @@ receiver-fits (suc zero) g s rd wr f e = clash (cc)
 receiver-fits (suc (suc zero)) g s rd wr f e = clash (cc)
 receiver-fits (suc (suc (suc zero))) g s rd wr f e =
     let i : stageOf g ≡ s = cc in (refl, subst (λ s. Stands s g rd wr) i (receiver-stands g rd wr f))
-receiver-fits (suc (suc (suc (suc m)))) g s rd wr f e = true-false (sym (unfold modelFits in f))
+receiver-fits (suc (suc (suc (suc m)))) g s rd wr f e = clash (cc)
 
 stands : (u : List ℕ) (g : Stage) → wellFormed u ≡ true → unitOf u .model ≡ Receiver g
     → (modelNo u ≡ 3) × Stands g (stageNo u) (unitOf u .rd) (unitOf u .wr)
 stands u g w e =
     let x = model-fits u (Receiver g) w e (λ d. clash (cc)) in
     receiver-fits (modelNo u) (stageNo u) g _ _ (x .0) (x .1)
+
+-- ---- the bytes of unit k in the tag t
+
+pub unit-length : (t : List ℕ) (k : ℕ) (u : List ℕ) → u ≡ unitBytes t k → unitAt k + 32 ≤ length t → length u ≡ 32
+unfolding unitBytes
+unit-length t k u e h = ap length e ∙ length-lent (unitAt k) 32 t h
+
+pub unit-byte : (t : List ℕ) (k : ℕ) → byte 0 (unitBytes t k) ≡ byte (unitAt k) t
+unfolding unitBytes
+unit-byte t k =
+    let z : unitAt k + 0 ≡ unitAt k = omega arith in
+    byte-part (unitAt k) 32 t 0 (omega arith) ∙ ap (λ i. byte i t) z
 
 -- ---- moves
 
@@ -271,3 +322,15 @@ moved-advanced u One l w e =
     let m : byte 1 u ≡ 0x13 = omega arith in
     rw (m, opened-read-only (byte 0 u) l (unfold unitOf in x .1 .2) (unfold unitOf in x .1 .1))
 moved-advanced u Two l w e = refl
+
+-- and what an insertion stores, in a unit of model 4 at stage 0
+pub moved-inserted : (u : List ℕ) → byte 0 u < 256 → wellFormed u ≡ true → unitOf u .model ≡ SharedKey Filling
+    → readMoved u ≡ inserted u
+unfolding readMoved inserted
+moved-inserted u l w e =
+    let y = model-fits u (SharedKey Filling) w e (λ d. clash (cc)) in
+    let x = filling-fields _ _ _ _ (y .0) (y .1) in
+    let n = x .0 in
+    let g = x .1 in
+    let m : byte 1 u ≡ 0x04 = omega (arith, n, g) in
+    rw (m, opened-read-only (byte 0 u) l (unfold unitOf in x .3) (unfold unitOf in x .2))

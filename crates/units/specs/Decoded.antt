@@ -9,7 +9,7 @@ use Rattle.rules.specs.declared.Model.{Model}
 use Rattle.rules.specs.declared.Model.the-variants.{Default}
 use Rattle.rules.specs.declared.Unit.{Unit}
 use Rattle.rules.specs.Bytes.{byte, part, number, zeros}
-use Rattle.rules.specs.Units.{bit, rfu, modelFits, modelOf, stageOf, wellFormed, unitOf}
+use Rattle.rules.specs.Units.{bit, rfu, modelFits, modelOf, wellFormed, unitOf}
 use Rattle.rules.specs.Refusals.{pastStageZero}
 use Rattle.units.specs.declared.Decoded.{Decoded}
 use Rattle.units.specs.declared.Decoded.the-variants.{Unit as Whole, Malformed}
@@ -28,7 +28,7 @@ bothFit control b = not (bit 0 control) || modelFits (b % 16) (b / 16) (bit 7 co
 
 -- the model of a control byte and a model byte
 unfoldable pub modelRead : ℕ → ℕ → ModelRead
-modelRead control b = known (bothFit control b) (cond (bit 0 control) (modelOf (b % 16) (stageOf (b / 16))) Default)
+modelRead control b = known (bothFit control b) (cond (bit 0 control) (modelOf (b % 16) (b / 16)) Default)
 
 unfoldable pub bytesFit : List ℕ → Bool
 bytesFit u =
@@ -64,3 +64,7 @@ unfoldable pub movedTo : Stage → List ℕ → List ℕ
 movedTo Zero u = byte 0 u ∷ 0x13 ∷ []
 movedTo One u = opened (byte 0 u) ∷ 0x23 ∷ []
 movedTo Two u = byte 0 u ∷ byte 1 u ∷ []
+
+-- the same of a unit of model 4 after the insertion of its host
+unfoldable pub readMoved : List ℕ → List ℕ
+readMoved u = opened (byte 0 u) ∷ 0x14 ∷ []

@@ -5,8 +5,9 @@ ghost use mathlib.Core.Path.{_≡_};
 ghost use lib.ListN.{length};
 ghost use Rattle.rules.specs.Bytes.{put};
 ghost use Rattle.rules.specs.Units.{unitOf};
-ghost use Rattle.rules.specs.Refusals.{editAllowed, keepsModel};
-ghost use Rattle.units.specs.Decoded.{decoded, modelRead, bytesFit, unitWith, mayBecome, opened, movedTo};
+ghost use Rattle.rules.specs.Refusals.{editAllowed, isFilling, isInserted, keepsModel};
+ghost use Rattle.units.specs.Decoded.{decoded, modelRead, bytesFit, unitWith, mayBecome, opened, movedTo, readMoved};
+use rules::KeyStage;
 use rules::Model;
 use rules::Stage;
 use rules::Unit;
@@ -49,6 +50,8 @@ fn model_of(control: u8, byte: u8) -> ModelRead
         0x03 => known(!rd & wr, Model::Receiver(Stage::Zero)),
         0x13 => known(!rd & wr, Model::Receiver(Stage::One)),
         0x23 => known(rd & !wr, Model::Receiver(Stage::Two)),
+        0x04 => known(!rd & wr, Model::SharedKey(KeyStage::Filling)),
+        0x14 => known(rd & !wr, Model::SharedKey(KeyStage::Inserted)),
         _ => ModelRead::Unknown,
     }
 }
@@ -110,17 +113,21 @@ fn keeps_model(old: &[u8], new: &[u8]) -> bool
         & (old[1] == new[1])
 }
 
-// Whether an edit may bring a unit to this model: of model 3 only its stage 0.
+// Whether an edit may bring a unit to this model: of models 3 and 4 only to their stage 0.
 fn may_become(model: Model) -> bool
     ensures { λ r. ⌜ r ≡ mayBecome model ⌝ }
 {
-    let Model::Receiver(stage) = model else {
-        return true;
-    };
-    match stage {
-        Stage::Zero => true,
-        Stage::One => false,
-        Stage::Two => false,
+    match model {
+        Model::Receiver(stage) => match stage {
+            Stage::Zero => true,
+            Stage::One => false,
+            Stage::Two => false,
+        },
+        Model::SharedKey(stage) => match stage {
+            KeyStage::Filling => true,
+            KeyStage::Inserted => false,
+        },
+        _ => true,
     }
 }
 
@@ -161,4 +168,39 @@ pub fn advance(unit: &mut [u8], stage: Stage)
         }
         Stage::Two => {}
     }
+}
+
+// Whether it is model 4, before the insertion of its host.
+pub fn is_filling(model: Model) -> bool
+    ensures { λ r. ⌜ r ≡ isFilling model ⌝ }
+{
+    let Model::SharedKey(stage) = model else {
+        return false;
+    };
+    match stage {
+        KeyStage::Filling => true,
+        KeyStage::Inserted => false,
+    }
+}
+
+// Whether it is model 4, after it.
+pub fn is_inserted(model: Model) -> bool
+    ensures { λ r. ⌜ r ≡ isInserted model ⌝ }
+{
+    let Model::SharedKey(stage) = model else {
+        return false;
+    };
+    match stage {
+        KeyStage::Filling => false,
+        KeyStage::Inserted => true,
+    }
+}
+
+// A unit of model 4 goes from stage 0 to stage 1, and is read only from then on.
+pub fn insert(unit: &mut [u8])
+    requires { ⌜ length (now unit) ≡ 32 ⌝ }
+    ensures { λ _. ⌜ now (unit .exit) ≡ put 0 (readMoved (now (unit .entry))) (now (unit .entry)) ⌝ }
+{
+    unit[0] = read_only(unit[0]);
+    unit[1] = 0x14;
 }

@@ -12,6 +12,7 @@ pub const NAME: usize = 4032;
 pub const ID: usize = 4048;
 pub const COMMIT: usize = 4064;
 pub const PA: usize = 4080;
+pub const READER_IDS: usize = 8192;
 pub const UNIT: usize = 12288;
 pub const SEGMENT: usize = 16384;
 
@@ -83,6 +84,12 @@ impl Host {
     pub fn advance(&mut self, segment: usize) -> Result<(), u8> {
         let before = self.clone();
         let answer = reference::advance(&mut self.tag, &self.session, segment).map_err(Refusal::number);
+        self.check_refused(before, answer)
+    }
+
+    pub fn insert(&mut self, segment: usize, id: &Block) -> Result<(), u8> {
+        let before = self.clone();
+        let answer = reference::insert(&mut self.tag, &self.session, segment, id).map_err(Refusal::number);
         self.check_refused(before, answer)
     }
 

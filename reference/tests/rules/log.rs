@@ -60,6 +60,26 @@ fn advance_log() {
 }
 
 #[test]
+fn insertion_log() {
+    let (id, other) = ("000102030405060708090A0B0C0D0E0F", "AA".repeat(16));
+    let mut host = Host::new(2, 1)
+        .with(UNIT, &[M | WR, 0x04])
+        .with(UNIT + 32, &[M | WR, 0x04]);
+    check_all(
+        &mut host,
+        &format!("32 0001 {id} 32 0001 {id} 32 0000 {id} 32 0002 {id} 32 FFFF {id} 32 0000 {other}"),
+        "50 510E 5113 5103 5103 50",
+    );
+    check_all(&mut host, "14 00002000", &format!("44 {id} 0002 {}", "AA".repeat(14)));
+    check_all(&mut host, "12 00002020", "42 AAAA 0001 00000000");
+    check_all(
+        &mut host,
+        "13 00004000 13 00005000 13 00005030",
+        &format!("43 {id} 5106 43 {other}"),
+    );
+}
+
+#[test]
 fn refused_reads_touch_no_room_behind_the_reply() {
     check_all(
         &mut Host::new(1, 0),
@@ -89,7 +109,9 @@ fn unsound_tags_refuse_all_but_power_up() {
         let mut host = Host::new(1, 0);
         host.tag.resize(length, 0);
         host.session.read = 7;
+        let insertion = "32 0000 000102030405060708090A0B0C0D0E0F";
         check_all(&mut host, "14 00000000 21 00004000 00 31 0000", "5101 5101 5101");
+        check_all(&mut host, insertion, "5101");
         assert_eq!(host.session.read, 7);
         check_all(&mut host, "00", "50");
         assert_eq!(host.session.read, 0);
@@ -102,8 +124,8 @@ fn empty_log() {
 }
 
 #[test]
-fn bad_commands_end_the_run() {
-    for kind in (0x01..=0xFFu8).filter(|kind| !matches!(kind, 0x11..=0x14 | 0x21..=0x24 | 0x31)) {
+fn unknown_kinds_end_the_run() {
+    for kind in (0x01..=0xFFu8).filter(|kind| !matches!(kind, 0x11..=0x14 | 0x21..=0x24 | 0x31 | 0x32)) {
         check(
             &mut Host::new(1, 0),
             &format!("00 {kind:02X} 00"),
@@ -113,6 +135,10 @@ fn bad_commands_end_the_run() {
             Stop::BadCommand,
         );
     }
+}
+
+#[test]
+fn short_bodies_end_the_run() {
     for short in [
         "11 000040",
         "14",
@@ -121,6 +147,10 @@ fn bad_commands_end_the_run() {
         "22 00004000 00000000000000",
         "31 00",
         "31",
+        "32",
+        "32 00",
+        "32 0000",
+        "32 0000 000102030405060708090A0B0C0D0E",
     ] {
         check(
             &mut Host::new(1, 0),
@@ -171,6 +201,16 @@ fn commands_without_room_are_not_carried_out() {
         assert!(host.tag == before.tag && host.session == before.session);
         check(&mut host.clone(), log, 2, "50", hex(log).len(), Stop::End);
     }
+}
+
+#[test]
+fn an_insertion_without_room_is_not_carried_out() {
+    let mut host = Host::unit(M | WR, 0x04);
+    let before = host.clone();
+    let log = "32 0000 000102030405060708090A0B0C0D0E0F";
+    check(&mut host, log, 1, "", 0, Stop::OutputFull);
+    assert!(host.tag == before.tag);
+    check(&mut host, log, 2, "50", 19, Stop::End);
 }
 
 #[test]

@@ -37,9 +37,12 @@ impl Numbers {
             [0x81, 0x23],
             [0xF8, 0],
             [0xA2, 0],
+            [0x21, 4],
+            [0x21, 4],
+            [0x81, 0x14],
         ];
-        let mut host = Host::new(2, 1).with(FLAG, &[self.below(2) as u8]);
-        for address in [UNIT, UNIT + 32] {
+        let mut host = Host::new(3, 1).with(FLAG, &[self.below(2) as u8]);
+        for address in [UNIT, UNIT + 32, UNIT + 64] {
             host = host.with(address, &self.of(&units));
         }
         let byte = self.of(&[0, 0, 0, 1]);
@@ -63,7 +66,7 @@ impl Numbers {
 fn step(host: &mut Host, numbers: &mut Numbers, log: &mut Vec<u8>, replies: &mut Vec<u8>) {
     let (size, address) = (numbers.below(4), numbers.address());
     let count = [1, 8, 16, 32][size];
-    let answer = match numbers.below(16) {
+    let answer = match numbers.below(17) {
         0 => {
             log.push(0);
             host.power_up();
@@ -74,7 +77,13 @@ fn step(host: &mut Host, numbers: &mut Numbers, log: &mut Vec<u8>, replies: &mut
             log.extend([0x31, 0, segment as u8]);
             host.advance(segment).map(|()| vec![0x50])
         }
-        2..8 => {
+        2 => {
+            let (segment, id) = (numbers.below(4), [numbers.below(4) as u8; 16]);
+            log.extend([0x32, 0, segment as u8]);
+            log.extend(id);
+            host.insert(segment, &id).map(|()| vec![0x50])
+        }
+        3..9 => {
             log.push(0x11 + size as u8);
             log.extend((address as u32).to_be_bytes());
             host.read(address, count)
@@ -116,7 +125,7 @@ fn any_log_is_answered() {
     for _ in 0..3000 {
         let mut host = numbers.host();
         let log: Vec<u8> = (0..numbers.below(60))
-            .map(|_| numbers.of(&[0, 0, 0x11, 0x22, 0x31, 0x40, 4, 16]))
+            .map(|_| numbers.of(&[0, 0, 0x11, 0x22, 0x31, 0x32, 0x40, 4, 16]))
             .collect();
         let mut output = vec![0xEE; numbers.below(40)];
         let result = run(&mut host.tag, &mut host.session, &log, &mut output);

@@ -9,8 +9,9 @@ fn sound(mut host: Host) -> bool {
         host.read(0, 0).err(),
         host.write(0, &[]).err(),
         host.advance(usize::MAX).err(),
+        host.insert(usize::MAX, &[0; 16]).err(),
     ];
-    assert!(answers == [Some(1); 4] || answers == [None, Some(2), Some(2), Some(3)]);
+    assert!(answers == [Some(1); 5] || answers == [None, Some(2), Some(2), Some(3), Some(3)]);
     answers[0].is_none()
 }
 

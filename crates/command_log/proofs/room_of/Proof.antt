@@ -23,11 +23,12 @@ returns : tie.Need-returns
 returns c = sym (ap roomOf (c .before .next .given .1))
 
 -- all but a read
-two : (x : Next) → OneOf (0 ∷ 2 ∷ 3 ∷ 4 ∷ []) (tagOf the-next.the-type x) → roomOf x ≡ 2
+two : (x : Next) → OneOf (0 ∷ 2 ∷ 3 ∷ 4 ∷ 5 ∷ []) (tagOf the-next.the-type x) → roomOf x ≡ 2
 two next.PowerUp m = refl
-two (next.Read a n) m = absurd (miss (0 ∷ 2 ∷ 3 ∷ 4 ∷ []) 1 tt m)
+two (next.Read a n) m = absurd (miss (0 ∷ 2 ∷ 3 ∷ 4 ∷ 5 ∷ []) 1 tt m)
 two (next.Write a n) m = refl
 two (next.Advance k) m = refl
+two (next.Insert k) m = refl
 two next.Unreadable m = refl
 
 returns-2 : tie.Need-returns-2

@@ -5,7 +5,7 @@ use Rattle.rules.specs.Map.{unitAt}
 use Rattle.rules.specs.Answers.{refusalOf}
 use Rattle.rules.proofs.MapLaws.{sizes}
 use Rattle.commands.specs.Verdict.{moveAnswer}
-use Rattle.commands.proofs.UnitLaws.{unit-length}
+use Rattle.units.proofs.Laws.{unit-length}
 use Rattle.commands.proofs.ReadLaws.{unit-counted, unit-lent, advance-outside}
 use Rattle.commands.proofs.ReadLaws.{advance-judged, advance-refused, advance-moves}
 use borrow.Author.Needs.{needs}

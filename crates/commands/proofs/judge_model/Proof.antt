@@ -1,11 +1,19 @@
 -- `commands::judge_model` meets its contract: model by model. Assumes nothing.
+use Prim.Native.Nat.{ℕ}
 use mathlib.Core.Path.{_≡_, refl, sym, ap, _∙_}
 use mathlib.Core.Bool.{false, not}
+use mathlib.Core.List.{List, [], _∷_}
+use types.Run.{OneOf, miss}
+use denote.Enum.Declared.{tagOf}
+use Rattle.rules.proofs.Model as the-model
+use Rattle.rules.specs.declared.Model.{Model}
+use Rattle.rules.specs.declared.Model.the-variants.{Default, WriteOnce, Counter, Receiver, SharedKey}
 use Rattle.rules.proofs.Tests.{gives, leaves, none-applies}
 use Rattle.rules.specs.declared.Refusal.the-variants.{NotNext}
 use Rattle.rules.specs.declared.Answer.the-variants.{Done}
 use Rattle.rules.specs.Refusals.{_when_else_, granted, slotRefuses}
 use Rattle.commands.specs.declared.Verdict.{Verdict}
+use Rattle.commands.specs.declared.Verdict.the-variants.{Store}
 use Rattle.commands.specs.Verdict.{Judged, answerOf, actOf}
 use Rattle.commands.proofs.Laws.{refuses, acts}
 use borrow.Author.Needs.{needs}
@@ -15,6 +23,16 @@ use Rattle.commands.proofs.judge_model.Tie as tie
 -- no model but that of counters refuses
 stores : (act : Verdict) → answerOf act ≡ Done → Judged (12 when false else granted) act act
 stores act d = acts _ act d (leaves 12 false granted refl ∙ none-applies)
+
+-- those of models 0 and 4 are plain stores
+plain : (m : Model) (k at : ℕ) (old bs : List ℕ) → OneOf (0 ∷ 4 ∷ []) (tagOf the-model.the-type m)
+    → Judged (12 when slotRefuses m at old bs else granted) (actOf k m) Store
+unfolding slotRefuses actOf
+plain Default k at old bs o = stores Store refl
+plain WriteOnce k at old bs o = absurd (miss (0 ∷ 4 ∷ []) 1 tt o)
+plain Counter k at old bs o = absurd (miss (0 ∷ 4 ∷ []) 2 tt o)
+plain (Receiver g) k at old bs o = absurd (miss (0 ∷ 4 ∷ []) 3 tt o)
+plain (SharedKey g) k at old bs o = stores Store refl
 
 enum-told : tie.Need-enum-told
 enum-told c = search needs
@@ -37,40 +55,36 @@ enum-told-4 c = search needs
 enum-told-5 : tie.Need-enum-told-5
 enum-told-5 c = search needs
 
-enum-told-6 : tie.Need-enum-told-6
-enum-told-6 c = search needs
-
 returns : tie.Need-returns
-unfolding slotRefuses actOf
-returns c = rw (c .enum-told .given .1) (stores _ refl)
+returns c = plain _ _ _ _ _ (c .match .keys1)
 
 returns-2 : tie.Need-returns-2
 unfolding slotRefuses actOf
-returns-2 c = rw (c .enum-told2 .given .1) (stores _ refl)
+returns-2 c = rw (c .enum-told .given .1) (stores _ refl)
 
 returns-3 : tie.Need-returns-3
 unfolding slotRefuses actOf
 returns-3 c =
-    rw (c .before .before .enum-told3 .given .1)
+    rw (c .before .before .enum-told2 .given .1)
     (acts _ _ refl (leaves 12 _ _ (ap not (sym (c .before .slot-fits .ensures) ∙ c .if1 .taken)) ∙ none-applies))
 
 returns-4 : tie.Need-returns-4
 unfolding slotRefuses actOf
 returns-4 c =
-    rw (c .before .before .enum-told3 .given .1)
+    rw (c .before .before .enum-told2 .given .1)
     (refuses _ _ NotNext (gives 12 _ _ (ap not (sym (c .before .slot-fits .ensures) ∙ c .if1 .left))))
 
 returns-5 : tie.Need-returns-5
 unfolding slotRefuses actOf
-returns-5 c = rw (c .before .before .before .model .given .1, c .enum-told4 .given .1) (stores _ refl)
+returns-5 c = rw (c .before .before .before .model .given .1, c .enum-told3 .given .1) (stores _ refl)
 
 returns-6 : tie.Need-returns-6
 unfolding slotRefuses actOf
-returns-6 c = rw (c .before .before .before .model .given .1, c .enum-told5 .given .1) (stores _ refl)
+returns-6 c = rw (c .before .before .before .model .given .1, c .enum-told4 .given .1) (stores _ refl)
 
 returns-7 : tie.Need-returns-7
 unfolding slotRefuses actOf
-returns-7 c = rw (c .before .before .before .model .given .1, c .enum-told6 .given .1) (stores _ refl)
+returns-7 c = rw (c .before .before .before .model .given .1, c .enum-told5 .given .1) (stores _ refl)
 
 pub judge-model-spec : {M : Type 1} → statement M
 judge-model-spec =
@@ -78,12 +92,11 @@ judge-model-spec =
     (tie.spec
     enum-told
     enum-told-2
-    enum-told-3
     slot-fits-requires
     enum-known-model
+    enum-told-3
     enum-told-4
     enum-told-5
-    enum-told-6
     returns
     returns-2
     returns-3

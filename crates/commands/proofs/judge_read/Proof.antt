@@ -26,8 +26,11 @@ returns-2 c =
 
 judge-read-in-requires : tie.Need-judge-read-in-requires
 judge-read-in-requires c κs =
-    let at = c .before .before .before in
-    (at .before .before .before .pre, sym (at .place-of .ensures) ∙ ap found (c .before .place .given .1))
+    let at = c .before .before .before in (
+      at .before .before .before .pre,
+      sym (at .place-of .ensures) ∙ ap found (c .before .place .given .1),
+      count-least _ _ (at .before .if1 .left),
+    )
 
 returns-3 : tie.Need-returns-3
 returns-3 c =

@@ -1,7 +1,8 @@
 -- `commands::judge_read_in` meets its contract: place by place. Assumes nothing.
 use mathlib.Core.Path.{sym, _∙_}
 use native.Mathlib.Omega.{arith}
-use Rattle.commands.proofs.UnitLaws.{unit-found, segment-found, unit-length}
+use Rattle.units.proofs.Laws.{unit-length}
+use Rattle.commands.proofs.UnitLaws.{unit-found, segment-offset}
 use Rattle.commands.proofs.ReadLaws.{readable, unreadable, unit-read-in, segment-read-in}
 use borrow.Author.Needs.{needs}
 use Rattle.commands.proofs.judge_read_in.Statement.{statement}
@@ -48,21 +49,11 @@ judge-unit-read-requires c κs =
 enum-known-place-2 : tie.Need-enum-known-place-2
 enum-known-place-2 c = search needs
 
-unit-of-requires-2 : tie.Need-unit-of-requires-2
-unit-of-requires-2 c κs =
-    let at = c .before .before .before .before .before in
-    segment-found _ _ _ _ _ (at .pre .0) (at .pre .1) (c .before .before .place2 .given .1) .0 .inside
-
-slice-aggregate-judge-segment-read : tie.Need-slice-aggregate-judge-segment-read
-slice-aggregate-judge-segment-read c = search needs
-
 judge-segment-read-requires : tie.Need-judge-segment-read-requires
 judge-segment-read-requires c κs =
-    let unit = c .before in
-    let told = unit .before .before .before in
-    let at = told .before .before .before in
-    let found = segment-found _ _ _ _ _ (at .pre .0) (at .pre .1) (told .place2 .given .1) in
-    unit-length _ _ _ (unit .unit-of2 .ensures) (found .0 .inside)
+    let at = c .before .before .before .before in
+    let found = segment-offset _ _ _ _ _ (at .pre .0) (at .pre .1) (at .pre .2) (c .before .place2 .given .1) in
+    (at .pre .0, found .0, found .2)
 
 returns : tie.Need-returns
 returns c = sym (readable _ _ _ _ (c .match .keys1))
@@ -74,9 +65,10 @@ returns-2 c =
 
 returns-3 : tie.Need-returns-3
 returns-3 c =
-    let unit = c .before .before in
-    c .judge-segment-read .ensures
-    ∙ segment-read-in _ _ _ _ _ _ _ (unit .unit-of2 .ensures) (unit .before .before .before .place2 .given .1)
+    let place = c .before .before in
+    let at = place .before .before .before in
+    let found = segment-offset _ _ _ _ _ (at .pre .0) (at .pre .1) (at .pre .2) (place .place2 .given .1) in
+    c .judge-segment-read .ensures ∙ segment-read-in _ _ _ _ _ _ (found .1) (place .place2 .given .1)
 
 returns-4 : tie.Need-returns-4
 returns-4 c = sym (unreadable _ _ _ _ (c .match .keys4))
@@ -93,8 +85,6 @@ judge-read-in-spec =
     sub-judge-unit-read
     judge-unit-read-requires
     enum-known-place-2
-    unit-of-requires-2
-    slice-aggregate-judge-segment-read
     judge-segment-read-requires
     returns
     returns-2

@@ -1,7 +1,7 @@
 -- `commands::judge_segment_at` meets its contract. Assumes nothing.
 use lib.ListN.{length}
 use Rattle.octets.proofs.Laws.{part-lent}
-use Rattle.commands.proofs.UnitLaws.{unit-length}
+use Rattle.units.proofs.Laws.{unit-length}
 use borrow.Author.Needs.{needs}
 use Rattle.commands.proofs.judge_segment_at.Statement.{statement}
 use Rattle.commands.proofs.judge_segment_at.Tie as tie

@@ -3,7 +3,7 @@ use mathlib.Core.Path.{ap, _∙_}
 use mathlib.Core.Bool.{not}
 use Rattle.rules.proofs.Tests.{gives, leaves, none-applies}
 use Rattle.rules.specs.declared.Model.the-variants.{Receiver}
-use Rattle.rules.specs.declared.Refusal.the-variants.{NoAdvance}
+use Rattle.rules.specs.declared.Refusal.the-variants.{OtherModel}
 use Rattle.rules.specs.Refusals.{canAdvance}
 use Rattle.units.proofs.Laws.{no-receiver}
 use Rattle.commands.proofs.ReadLaws.{move-refuses, moves, no-advance}
@@ -15,7 +15,7 @@ enum-known-model : tie.Need-enum-known-model
 enum-known-model c = search needs
 
 returns : tie.Need-returns
-returns c = move-refuses _ _ NoAdvance (gives 14 _ _ (ap not (no-advance _ (no-receiver _ (c .match .keys2) .0))))
+returns c = move-refuses _ _ OtherModel (gives 14 _ _ (ap not (no-advance _ (no-receiver _ (c .match .keys2)))))
 
 enum-told : tie.Need-enum-told
 enum-told c = search needs
@@ -42,7 +42,7 @@ returns-4 : tie.Need-returns-4
 unfolding canAdvance
 returns-4 c =
     let stage = c .before .before .before .model .given .1 ∙ ap Receiver (c .enum-told3 .given .1) in
-    move-refuses _ _ NoAdvance (gives 14 _ _ (ap (λ m. not (canAdvance m)) stage))
+    move-refuses _ _ OtherModel (gives 14 _ _ (ap (λ m. not (canAdvance m)) stage))
 
 pub judge-stage-spec : {M : Type 1} → statement M
 judge-stage-spec =

@@ -56,11 +56,13 @@ verdict-of-requires-2 c κs = search needs
 enum-known-place-2 : tie.Need-enum-known-place-2
 enum-known-place-2 c = search needs
 
-judge-edit-at-requires : tie.Need-judge-edit-at-requires
-judge-edit-at-requires c κs =
+judge-edit-requires : tie.Need-judge-edit-requires
+judge-edit-requires c κs =
     let start = c .before .before .before .before .before in
     let found = unit-found _ _ _ _ _ (start .pre .0) (start .pre .1) (c .before .place2 .given .1) in
-    (found .1, found .2, found .0 .inside)
+    let inside = found .0 .inside in
+    let small = found .0 .small in
+    (found .1, found .2, inside, omega (arith, inside, small))
 
 verdict-of-requires-3 : tie.Need-verdict-of-requires-3
 verdict-of-requires-3 c κs = search needs
@@ -93,7 +95,7 @@ returns-3 : tie.Need-returns-3
 unfolding writeChecks actIn
 returns-3 c =
     rw (c .before .before .before .place2 .given .1, c .verdict-of3 .ensures)
-    (judged _ _ (c .before .judge-edit-at .result) refl (c .before .judge-edit-at .ensures))
+    (judged _ _ (c .before .judge-edit .result) refl (c .before .judge-edit .ensures))
 
 returns-4 : tie.Need-returns-4
 unfolding writeChecks actIn
@@ -123,7 +125,7 @@ judge-write-in-spec =
     judge-requires
     verdict-of-requires-2
     enum-known-place-2
-    judge-edit-at-requires
+    judge-edit-requires
     verdict-of-requires-3
     enum-known-place-3
     judge-segment-at-requires

@@ -6,14 +6,14 @@ use borrow.Author.Needs.{needs}
 use Rattle.tag_c.proofs.keep.Statement.{statement}
 use Rattle.tag_c.proofs.keep.Tie as tie
 
-put-index-requires : tie.Need-put-index-requires
-put-index-requires c κs = search needs
+store16-requires : tie.Need-store16-requires
+store16-requires c κs = search needs
 
-put-index-requires-2 : tie.Need-put-index-requires-2
-put-index-requires-2 c κs = search needs
+store16-requires-2 : tie.Need-store16-requires-2
+store16-requires-2 c κs = search needs
 
-put-index-requires-3 : tie.Need-put-index-requires-3
-put-index-requires-3 c κs = search needs
+store16-requires-3 : tie.Need-store16-requires-3
+store16-requires-3 c κs = search needs
 
 slice-aggregate-store-at : tie.Need-slice-aggregate-store-at
 slice-aggregate-store-at c = search needs
@@ -46,13 +46,13 @@ returns c =
     let three = one .before .before .before in
     let start = three .before .before .before .before .before .before .before .before .before in
     let good = start .good .1 .0 .1 .1 .1 .1 .1 in
-    all-put (start .args .session) _ _ _ _ _ _ _ (three .before .before .before .before .before .put-index-arg .given .0 .1)
+    all-put (start .args .session) _ _ _ _ _ _ _ (three .before .before .before .before .before .store16-arg .given .0 .1)
     (simp length-map at (good .0 .1 .0 .1))
     (simp length-map at (good .1 .0 .1 .0 .1))
     (simp length-map at (good .1 .1 .0 .1 .0 .1))
-    (three .before .before .before .before .put-index .ensures)
-    (three .before .before .put-index2 .ensures)
-    (three .put-index3 .ensures)
+    (three .before .before .before .before .store16 .ensures)
+    (three .before .before .store162 .ensures)
+    (three .store163 .ensures)
     (one .store-at .ensures)
     (two .store-at2 .ensures)
     (c .store-at3 .ensures)
@@ -61,9 +61,9 @@ pub keep-spec : {M : Type 1} → statement M
 keep-spec =
     tie.close
     (tie.spec
-    put-index-requires
-    put-index-requires-2
-    put-index-requires-3
+    store16-requires
+    store16-requires-2
+    store16-requires-3
     slice-aggregate-store-at
     store-at-requires
     slice-aggregate-store-at-2

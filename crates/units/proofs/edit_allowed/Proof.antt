@@ -30,7 +30,7 @@ returns-2 c =
     let at = c .before .before .before in
     c .may-become .ensures
     ∙ sym (edit-allowed-is _ _ _ (sym (at .before .before .decode .ensures) ∙ at .unit .given .1)
-    ∙ rw (sym e, no-receiver _ (c .before .match2 .keys2) .0))
+    ∙ rw (sym e, no-receiver _ (c .before .match2 .keys2)))
 
 keeps-model-requires : tie.Need-keeps-model-requires
 keeps-model-requires c κs = search needs

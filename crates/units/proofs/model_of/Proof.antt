@@ -1,7 +1,7 @@
 -- `units::model_of` meets its contract: each arm is what `modelFits` and `modelOf` say of its byte. Assumes nothing.
 use mathlib.Core.Path.{sym, _∙_}
 use mathlib.Core.Bool.{or-false}
-use Rattle.rules.specs.Units.{bit, modelFits, modelOf, stageOf}
+use Rattle.rules.specs.Units.{bit, modelFits, modelOf, stageOf, keyStageOf}
 use Rattle.units.proofs.Laws.{model-default, model-named, model-none}
 use borrow.Author.Needs.{needs}
 use Rattle.units.proofs.model_of.Statement.{statement}
@@ -24,6 +24,12 @@ known-requires-4 c κs = search needs
 
 known-requires-5 : tie.Need-known-requires-5
 known-requires-5 c κs = search needs
+
+known-requires-6 : tie.Need-known-requires-6
+known-requires-6 c κs = search needs
+
+known-requires-7 : tie.Need-known-requires-7
+known-requires-7 c κs = search needs
 
 returns-2 : tie.Need-returns-2
 unfolding modelFits modelOf stageOf bit
@@ -60,7 +66,19 @@ returns-7 c =
     ∙ sym (model-named _ _ (c .before .before .if1 .left) ∙ rw (c .before .match .keys6))
 
 returns-8 : tie.Need-returns-8
-returns-8 c = sym (model-none _ _ (c .before .if1 .left) (c .match .rest))
+unfolding modelFits modelOf keyStageOf bit
+returns-8 c =
+    c .known6 .ensures
+    ∙ sym (model-named _ _ (c .before .before .if1 .left) ∙ rw (c .before .match .keys7, or-false))
+
+returns-9 : tie.Need-returns-9
+unfolding modelFits modelOf keyStageOf bit
+returns-9 c =
+    c .known7 .ensures
+    ∙ sym (model-named _ _ (c .before .before .if1 .left) ∙ rw (c .before .match .keys8))
+
+returns-10 : tie.Need-returns-10
+returns-10 c = sym (model-none _ _ (c .before .if1 .left) (c .match .rest))
 
 pub model-of-spec : {M : Type 1} → statement M
 model-of-spec =
@@ -72,10 +90,14 @@ model-of-spec =
     known-requires-3
     known-requires-4
     known-requires-5
+    known-requires-6
+    known-requires-7
     returns-2
     returns-3
     returns-4
     returns-5
     returns-6
     returns-7
-    returns-8)
+    returns-8
+    returns-9
+    returns-10)

@@ -1,9 +1,9 @@
--- `tag_c::put_index` meets its contract. Assumes nothing.
+-- `octets::store16` meets its contract. Assumes nothing.
 use lib.ListN.{length-set}
-use Rattle.tag_c.proofs.Laws.{index-put}
+use Rattle.octets.proofs.Laws.{put-number}
 use borrow.Author.Needs.{needs}
-use Rattle.tag_c.proofs.put_index.Statement.{statement}
-use Rattle.tag_c.proofs.put_index.Tie as tie
+use Rattle.octets.proofs.store16.Statement.{statement}
+use Rattle.octets.proofs.store16.Tie as tie
 
 cast-bytes : tie.Need-cast-bytes
 cast-bytes c = search needs
@@ -24,10 +24,10 @@ same-length : tie.Need-same-length
 same-length c = search needs
 
 returns : tie.Need-returns
-returns c = index-put (c .args .at) (c .args .index) (c .args .bytes .now)
+returns c = put-number (c .args .at) (c .args .value) (c .args .bytes .now)
 
-pub put-index-spec : {M : Type 1} → statement M
-put-index-spec =
+pub store16-spec : {M : Type 1} → statement M
+store16-spec =
     tie.close
     (tie.spec
     cast-bytes
