@@ -15,7 +15,7 @@ use Rattle.rules.specs.Run.{final, replies}
 use Rattle.rules.specs.Log.{kinds, kindIn, bodyLength, commandOf, wholeOf, first, parsed, parsedBy, commandsOf, readCode, encoded, encodedAll, roomFor, stopped, onward, carriedOut, runLog}
 use Rattle.rules.specs.Examples.{Hold, starred, insertions, hostTag, hostId, stages, errors, NotEmpty, RepeatsChange, owed, tagWith, counterTag, eight, begin, naming, got, xorWrite, nameWrite, xorState, nameState}
 use Rattle.rules.specs.Readings.{readings, zeros16, counterOrder, modelThreeEdits, modelOneEdits, advanceOrder, coveredName, indexRules, registerRules, pinRules, whichKey, countFirst, shortTag, defaultModel, logRoom}
-use Rattle.rules.specs.Readings.{listing, insertOrder, whoseId, hiddenSlots, listedEdits, stageOneEdits, staleRows, threeHosts, badRows, hostReadings}
+use Rattle.rules.specs.Readings.{listing, keyStages, insertOrder, whoseId, hiddenSlots, listedEdits, stageOneEdits, staleRows, threeHosts, badRows, hostReadings}
 
 -- all of them under one list of what is opened
 computed : Hold starred × Hold stages × Hold errors × Hold readings × NotEmpty × RepeatsChange
@@ -70,7 +70,7 @@ unfolding part put numberFrom same zeros xor all segments publics flag most mana
     insertStores poweredUp lowest segmentReadChecks slotRefuses segmentWriteChecks unitReadChecks isReceiver pastStageZero
     sameBool keepsModel editAllowed editChecks readChecks writeChecks apply stored readOnly writeMove writeStores
     writeSession refusalStores inPlace checks refusal storesIn sessionIn stores newSession grant replyBy reply afterBy after
-    final replies begin got owed bytesOf tagWith hostTag hostId listing insertOrder whoseId hiddenSlots listedEdits
+    final replies begin got owed bytesOf tagWith hostTag hostId listing keyStages insertOrder whoseId hiddenSlots listedEdits
     stageOneEdits staleRows threeHosts badRows hostReadings plainChecks registerChecks registerStores registerSession withId
 host-readings-computed = refl
 

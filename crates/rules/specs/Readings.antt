@@ -186,11 +186,21 @@ readings =
 unfoldable pub listing : (i id named : ℕ) → List ℕ → List ℕ
 listing i id named t = put (8192 + 18 * i) (id ∷ replicate 15 0 ++ 0 ∷ named ∷ []) t
 
--- an insertion gives 7 before 14, 14 before 19, and never 6; nE does not stop it, and of byte 0 only RD and WR change; with
--- M clear byte 1 = 04 is the default model
+-- model 4 is well formed at stage 0 with WR alone and at stage 1 with RD alone: a unit of another kind is not read
+unfoldable pub keyStages : List Example
+keyStages =
+    sends (begin (tagWith 0x81 0x04)) (read 12288 1 1 ∷ []) (refused 5 ∷ [])
+    ∷ sends (begin (tagWith 0x21 0x14)) (read 12288 1 1 ∷ []) (refused 5 ∷ [])
+    ∷ sends (begin (tagWith 0x81 0x24)) (read 12288 1 1 ∷ []) (refused 5 ∷ [])
+    ∷ []
+
+-- an insertion gives 5 before 7, 7 before 14, 8 and 14 before 19, and never 6; nE does not stop it, and of byte 0 only RD and
+-- WR change; with M clear byte 1 = 04 is the default model
 unfoldable pub insertOrder : List Example
 insertOrder =
-    sends (begin (put 12295 (7 ∷ []) (tagWith 0xB0 0x00))) (insert 0 (hostId 0) ∷ []) (refused 7 ∷ [])
+    sends (begin (put 12295 (7 ∷ []) (tagWith 0xB1 0x04))) (insert 0 (hostId 0) ∷ []) (refused 5 ∷ [])
+    ∷ sends (begin (put 12295 (7 ∷ []) (tagWith 0xB0 0x00))) (insert 0 (hostId 0) ∷ []) (refused 7 ∷ [])
+    ∷ sends (begin (put 12304 (65 ∷ []) (tagWith 0x29 0x04))) (insert 0 (hostId 0) ∷ []) (refused 8 ∷ [])
     ∷ sends (begin (tagWith 0xA0 0x04)) (insert 0 (hostId 0) ∷ insert 1 (hostId 0) ∷ read 16384 1 1 ∷ []) (refused 14 ∷ refused 3 ∷ gives (0 ∷ []) ∷ [])
     ∷ sends (begin (tagWith 0x25 0x04)) (insert 0 (hostId 1) ∷ read 12288 2 2 ∷ insert 0 (hostId 2) ∷ []) (done ∷ gives (0x85 ∷ 0x14 ∷ []) ∷ refused 14 ∷ [])
     ∷ []
@@ -259,4 +269,4 @@ badRows =
     ∷ []
 
 unfoldable pub hostReadings : List Example
-hostReadings = insertOrder ++ whoseId ++ hiddenSlots ++ listedEdits ++ stageOneEdits ++ staleRows ++ badRows
+hostReadings = keyStages ++ insertOrder ++ whoseId ++ hiddenSlots ++ listedEdits ++ stageOneEdits ++ staleRows ++ badRows
