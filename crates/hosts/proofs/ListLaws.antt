@@ -1,13 +1,12 @@
 -- The list, row by row, as loops go through it: the next row, and the end. Assumes nothing.
 use Prim.Native.Nat.{ℕ, zero, suc, _+_, _-_, _*_, _≤_, _<_}
 use mathlib.Core.Path.{_≡_, refl, sym, ap, subst, _∙_}
-use mathlib.Core.Bool.{Bool, true, false, _&&_, _||_, not, cond}
+use mathlib.Core.Bool.{Bool, true, false, _&&_, _||_, not}
 use mathlib.Core.List.{List, [], _∷_}
 use native.Mathlib.Omega.{arith}
 use lib.ListN.{length, replicate, length-replicate}
 use lib.Dec.{eqb, leb}
-use borrow.Author.Tests.{le-leb}
-use Rattle.rules.specs.Bytes.{all, part, put, zeros}
+use Rattle.rules.specs.Bytes.{all, put, zeros}
 use Rattle.rules.specs.Hosts.{Host, hostAt, hosts, hostsFrom, readers, mostHosts, listed, misses, readable}
 use Rattle.rules.proofs.HostList.{short-list}
 use Rattle.octets.proofs.Laws.{length-lent, put-whole}

@@ -1,6 +1,6 @@
 -- Laws of the host list, and of what an insertion stores.
-use Prim.Native.Nat.{ℕ, suc, _+_, _-_, _≤_, _<_}
-use mathlib.Core.Path.{_≡_, refl, sym, ap, _∙_}
+use Prim.Native.Nat.{ℕ, _+_, _-_, _≤_, _<_}
+use mathlib.Core.Path.{_≡_, refl, sym, ap}
 use mathlib.Core.Bool.{Bool, true, false, not}
 use mathlib.Core.List.{List, [], _∷_, _++_}
 use mathlib.Core.Option.{none}
@@ -11,11 +11,11 @@ use Rattle.rules.specs.declared.KeyStage.the-variants.{Filling, Inserted
 use Rattle.rules.specs.declared.Model.{Model}
 use Rattle.rules.specs.declared.Model.the-variants.{Default, WriteOnce, Counter, Receiver, SharedKey}
 use Rattle.rules.specs.Bytes.{part, xor, zeros}
-use Rattle.rules.specs.Map.{segments, sound}
+use Rattle.rules.specs.Map.{segments}
 use Rattle.rules.specs.Units.{wellFormed, unitBytes, unitOf}
 use Rattle.rules.specs.Hosts.{Host, hosts, mostHosts, any, listed, repeats, slotId, slotKey}
 use Rattle.rules.specs.State.{Cipher, State}
-use Rattle.rules.specs.Refusals.{isSharedKey, isFilling, isInserted, rowFits, listRefuses, insertChecks, lowest}
+use Rattle.rules.specs.Refusals.{isFilling, isInserted, rowFits, listRefuses, insertChecks, lowest}
 use Rattle.rules.specs.Effects.{Store, _↤_, apply, joinedSlot}
 use Rattle.rules.specs.Command.{insert, refusal, checks}
 use Rattle.rules.proofs.Tests.{true-false, or-false, all-true, passes}

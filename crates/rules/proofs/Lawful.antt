@@ -10,7 +10,7 @@ use native.Mathlib.Omega.{arith}
 use lib.ListN.{length, length-append}
 use lib.Dec.{eqb}
 use Rattle.rules.specs.declared.Stage.the-variants.{Zero, One, Two}
-use Rattle.rules.specs.declared.KeyStage.the-variants.{Filling, Inserted}
+use Rattle.rules.specs.declared.KeyStage.the-variants.{Inserted}
 use Rattle.rules.specs.declared.Model.{Model}
 use Rattle.rules.specs.declared.Model.the-variants.{WriteOnce, Default, Counter, Receiver, SharedKey}
 use Rattle.rules.specs.declared.Register.{Register}

@@ -1,9 +1,9 @@
 -- A granted insertion: the pairs that it makes, its row and its unit, and what it leaves.
-use Prim.Native.Nat.{ℕ, zero, suc, _+_, _-_, _*_, _≤_, _<_}
+use Prim.Native.Nat.{ℕ, zero, _+_, _-_, _*_, _≤_, _<_}
 use mathlib.Core.Path.{_≡_, refl, sym, ap, subst, _∙_}
 use mathlib.Core.Logic.{_≢_}
 use mathlib.Core.Bool.{true, false}
-use mathlib.Core.List.{List, _∷_, _++_}
+use mathlib.Core.List.{List, _++_}
 use mathlib.Core.Option.{none}
 use native.Mathlib.Omega.{arith}
 use lib.ListN.{length, length-append}
@@ -11,10 +11,10 @@ use borrow.Author.Tests.{eqb-false, not-false}
 use Rattle.rules.specs.Bytes.{number, part, put, bytesOf, Apart}
 use Rattle.rules.specs.Map.{most, segments, sound, segmentAt, segmentsAt, unitAt}
 use Rattle.rules.specs.Units.{unitBytes, unitOf}
-use Rattle.rules.specs.Hosts.{hosts, hostAt, hostsFrom, mostHosts, readers}
+use Rattle.rules.specs.Hosts.{hosts, hostAt, mostHosts, readers}
 use Rattle.rules.specs.State.{Cipher, State}
 use Rattle.rules.specs.Refusals.{isSharedKey}
-use Rattle.rules.specs.Effects.{_↤_, apply, slotIn, rowStore, inserted, insertStores}
+use Rattle.rules.specs.Effects.{apply, slotIn, rowStore, inserted, insertStores}
 use Rattle.rules.specs.Command.{insert, refusal, checks, stores, newSession, after, afterBy}
 use Rattle.rules.specs.SharedKeys.{row, slotForNew, slotForRow, PairOf, Untouched, ListGrows, UnitInserted, InsertionLeaves}
 use Rattle.rules.proofs.Tests.{true-false, passes}

@@ -15,7 +15,7 @@ use Rattle.rules.specs.declared.Outcome.{Outcome}
 use Rattle.rules.specs.Bytes.{part, put}
 use Rattle.rules.specs.State.{State, poweredUp}
 use Rattle.rules.specs.Answers.{refusalOf}
-use Rattle.rules.specs.Command.{Command, read, write, insert, powerUp, done, refused, refusal, grant, reply, replyBy, filled}
+use Rattle.rules.specs.Command.{Command, read, write, insert, powerUp, done, refusal, grant, reply, replyBy, filled}
 use Rattle.rules.specs.Calls.{CarriedOut, outcome, replyOf}
 use Rattle.rules.specs.Log.{encoded}
 use Rattle.rules.proofs.BytesLaws.{put-none}
