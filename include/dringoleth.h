@@ -58,14 +58,15 @@ enum {
     DRINGOLETH_BAD_REGISTER = 9,    /* a register write that is not 16 bytes, or an index in PA that is too high */
     DRINGOLETH_FLAG_USED = 10,      /* this value of the roll-back counter was used already */
     DRINGOLETH_WRONG_RESPONSE = 11, /* the response or the guard is wrong */
-    DRINGOLETH_NOT_NEXT = 12,       /* not one aligned slot, or not the next value of the slot or counter */
+    DRINGOLETH_NOT_NEXT = 12,       /* not one aligned slot, or neither the next value nor the one stored */
     DRINGOLETH_BAD_EDIT = 13,       /* the result of the edit is not allowed */
     DRINGOLETH_OTHER_MODEL = 14,    /* another model, or not at the stage that the command is for: for an advance not
                                        model 3 or at its last stage, for an insertion not model 4 at stage 0 */
     DRINGOLETH_UNREADABLE = 15,     /* a log's command of unknown kind, or with too short a body */
     DRINGOLETH_NO_ROOM = 16,        /* no room for the reply to a log's next command */
+    DRINGOLETH_REPEATED = 18,       /* the slot or counter holds this value already; 17 is the cipher's */
     DRINGOLETH_BAD_INSERTION = 19   /* the id is zeros or listed, the segment is listed, or the list of hosts is full or
-                                       damaged; 17 is the cipher's, and 18 is not given */
+                                       damaged */
 };
 
 /* Power-up: the session becomes all zeros. */
@@ -78,8 +79,10 @@ uint8_t dringoleth_read(const uint8_t *tag, size_t tag_len, const uint8_t sessio
                         size_t address, size_t count, uint8_t *output, size_t output_len);
 
 /* Writes the data at the address: into a segment, a unit (an edit), the roll-back counter or a register. A register
- * write changes the session. The unit of a listed host's segment takes no edit (13).
- * Returns 0, 1, 2, 3, 4, 5, 6, 7, 8, 9, 10, 11, 12 or 13. */
+ * write changes the session. The unit of a listed host's segment takes no edit (13). 18 tells that this very value is
+ * stored: a write that is sent again was carried out before, by this caller or by another. Nothing was changed, also not
+ * the flag.
+ * Returns 0, 1, 2, 3, 4, 5, 6, 7, 8, 9, 10, 11, 12, 13 or 18. */
 uint8_t dringoleth_write(uint8_t *tag, size_t tag_len, uint8_t session[DRINGOLETH_SESSION_BYTES], size_t address,
                          const uint8_t *data, size_t data_len);
 

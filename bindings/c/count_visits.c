@@ -1,5 +1,5 @@
-/* Counts visits on a tag: the write that adds one is granted, and its copy is refused. bindings/rust/examples/
- * count_visits.rs does the same and prints the same. */
+/* Counts visits on a tag: the write that adds one is granted, its copy is told as counted already, and a write that
+ * leaves one out is refused. bindings/rust/examples/count_visits.rs does the same and prints the same. */
 #include "dringoleth.h"
 
 #include <stdio.h>
@@ -40,6 +40,8 @@ static void add_visit(uint8_t visits)
 
     if (answer == DRINGOLETH_GRANTED)
         printf("visit %u: granted\n", visits);
+    else if (answer == DRINGOLETH_REPEATED)
+        printf("visit %u: already counted\n", visits);
     else
         printf("visit %u: refused %u\n", visits, answer);
 }
@@ -69,6 +71,7 @@ int main(void)
         return 1;
     add_visit(1);
     add_visit(1);
+    add_visit(3);
     if (print_visits() != 0)
         return 1;
     run_log();

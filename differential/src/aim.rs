@@ -10,6 +10,7 @@ use crate::slips;
 use crate::slots;
 use crate::spans;
 use crate::units::{self, Kind, Unit, PN, RDPIN, WRPIN};
+use crate::values;
 
 /// What a host is working towards. A commit keeps the PA and the bytes it was prepared with.
 #[derive(Clone, Debug)]
@@ -119,14 +120,27 @@ fn open_place(random: &mut Random, map: Map) -> Command {
     }
 }
 
+/// Mostly a segment of this kind, if there is one.
+fn mostly_of(random: &mut Random, view: View, map: Map, kind: Kind) -> usize {
+    let any = random.below(map.segments);
+    let is_of_kind = |k: &usize| units::kind(map::unit(view.tag, *k)) == kind;
+    let mut from_any = (any..map.segments).chain(0..any);
+    if random.percent(80) {
+        from_any.find(is_of_kind).unwrap_or(any)
+    } else {
+        any
+    }
+}
+
 fn some_goal(random: &mut Random, view: View, map: Map) -> Goal {
     let segment = random.below(map.segments);
     match random.below(24) {
         0..6 => Goal::Read(segment),
-        6..12 => Goal::Write(segment),
+        6..9 => Goal::Write(segment),
+        9..12 => Goal::Write(mostly_of(random, view, map, Kind::Model2)),
         12..16 => Goal::Edit(segment),
         16..18 => Goal::Advance(segment),
-        18..22 => Goal::Insert(slots::some_stream(random, view, map)),
+        18..22 => Goal::Insert(mostly_of(random, view, map, Kind::Stream)),
         _ => some_commit(random, view),
     }
 }
@@ -174,7 +188,7 @@ fn validate(random: &mut Random, view: View, register: Register, index: u16) -> 
         return write_pa(random, index);
     }
     if view.flag_is_set() {
-        return count_up(view);
+        return values::count_up(view, COUNTER);
     }
     let right = cipher::response(&view.pin(index), view.counter());
     let data = if random.percent(12) {
@@ -191,7 +205,7 @@ fn give_name(random: &mut Random, view: View, unit: &Unit) -> Command {
         return write_pa(random, index);
     }
     if view.flag_is_set() {
-        return count_up(view);
+        return values::count_up(view, COUNTER);
     }
     let name: &Block = unit[units::NAME..].try_into().expect("16 bytes");
     let mask = cipher::response(&view.pin(view.pin_index()), view.counter());
@@ -202,7 +216,7 @@ fn prepare_commit(view: View, pa: &Block) -> Option<Command> {
     if view.session[sessions::PA..] != *pa {
         Some(Command::write_register(Register::Pa, pa))
     } else if view.flag_is_set() {
-        Some(count_up(view))
+        Some(values::count_up(view, COUNTER))
     } else {
         None
     }
@@ -213,14 +227,6 @@ fn write_pa(random: &mut Random, index: u16) -> Command {
     random.fill(&mut pa[2..]);
     pa[..2].copy_from_slice(&index.to_be_bytes());
     Command::write_register(Register::Pa, &pa)
-}
-
-/// The counter's next value; at its end, 0, which must be refused.
-fn count_up(view: View) -> Command {
-    Command::Write {
-        address: COUNTER,
-        data: view.counter().wrapping_add(1).to_be_bytes().to_vec(),
-    }
 }
 
 fn reach(random: &mut Random, view: View, goal: Goal) -> Command {
@@ -248,33 +254,8 @@ fn read_segment(random: &mut Random, view: View, k: usize) -> Command {
 
 fn write_segment(random: &mut Random, view: View, k: usize) -> Command {
     if units::kind(map::unit(view.tag, k)) == Kind::Model2 && random.percent(95) {
-        return write_slot(random, view, segment(k).start);
+        return values::slot_write(random, view, segment(k).start);
     }
     let (address, count) = spans::part(random, segment(k));
     spans::write(random, address, count)
-}
-
-/// A slot mostly counted up; else the same value, two more, 0, or not one aligned slot.
-fn write_slot(random: &mut Random, view: View, start: usize) -> Command {
-    let any = random.below(512);
-    let slot = start + 8 * random.pick(&[0, 1, 2, 3, 511, any]);
-    let value = map::number(view.tag, slot);
-    let next = value.wrapping_add(1);
-    let other = random.pick(&[
-        value,
-        value.wrapping_add(2),
-        0,
-        value.wrapping_sub(1),
-        next.swap_bytes(),
-        next ^ (1 << 32),
-    ]);
-    let mut data = if random.percent(80) { next } else { other }.to_be_bytes().to_vec();
-    let mut address = slot;
-    match random.below(20) {
-        0 => address = (slot + random.pick(&[1, 4, 7])).min(start + SEGMENT - 8),
-        1 => data.truncate(random.pick(&[1, 4, 7])),
-        2 => data.resize(random.pick(&[9, 16]).min(start + SEGMENT - slot), 0),
-        _ => {}
-    }
-    Command::Write { address, data }
 }

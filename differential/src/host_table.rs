@@ -4,10 +4,11 @@
 use crate::commands::Command;
 use crate::hosts::{self, Cause};
 use crate::map::{self, Map, Place, UNIT};
+use crate::seats::{List, Seat};
 use crate::table::{place_of, Row};
 use crate::units::{self, Kind};
 
-/// The answers that are counted here. Before them come others, which the places' table has.
+/// The answers that are counted here.
 pub const COUNTED: [u8; 4] = [0, 6, 13, 19];
 
 /// Well-formed kinds of unit.
@@ -77,15 +78,6 @@ pub const RESULTS: [Row; FORMED + 1] = [
     ("ill formed", &[6, 13]),
 ];
 
-/// Where a command is counted: which of the four lists above, and its row there.
-#[derive(Clone, Copy, Debug, PartialEq, Eq)]
-pub enum Seat {
-    Insertion(usize),
-    SlotRead(usize),
-    ListedEdit(usize),
-    Result(usize),
-}
-
 fn by_hosts(hosts: usize) -> usize {
     match hosts {
         0 | 1 => hosts,
@@ -126,10 +118,10 @@ fn read_row(tag: &[u8], k: usize, address: usize, count: usize) -> usize {
 fn edit_seat(tag: &[u8], k: usize, offset: usize, data: &[u8]) -> Seat {
     let mut result = *map::unit(tag, k);
     if hosts::is_listed(tag, k) {
-        return Seat::ListedEdit(units::kind(&result) as usize);
+        return (List::ListedEdits, units::kind(&result) as usize);
     }
     result[offset..offset + data.len()].copy_from_slice(data);
-    Seat::Result(units::kind(&result) as usize)
+    (List::Results, units::kind(&result) as usize)
 }
 
 /// Where a command on this tag is counted, if the command concerns the hosts or is an edit of a well-formed unit.
@@ -142,10 +134,10 @@ pub fn seat_of(tag: &[u8], command: &Command) -> Option<Seat> {
     match (command, place, units::kind(map::unit(tag, k))) {
         (Command::Insert { id, .. }, _, Kind::Stream) => {
             let causes = hosts::causes(tag, map, k, id);
-            Some(Seat::Insertion(insertion_row(tag, &causes)))
+            Some((List::Insertions, insertion_row(tag, &causes)))
         }
         (Command::Read { address, count, .. }, Place::Segment(_), Kind::Shared) if *count > 0 => {
-            Some(Seat::SlotRead(read_row(tag, k, *address, *count)))
+            Some((List::SlotReads, read_row(tag, k, *address, *count)))
         }
         (_, _, Kind::IllFormed) => None,
         (Command::Write { address, data }, Place::Unit(_), _) => Some(edit_seat(tag, k, address % UNIT, data)),
@@ -167,13 +159,6 @@ mod tests {
         );
         for (i, (_, name)) in KINDS[..FORMED].iter().enumerate() {
             assert_eq!((LISTED_EDITS[i].0, RESULTS[i].0), (*name, *name));
-        }
-    }
-
-    #[test]
-    fn only_counted_answers_are_asked_for() {
-        for rows in [&INSERTIONS[..], &SLOT_READS, &LISTED_EDITS, &RESULTS] {
-            assert!(rows.iter().flat_map(|row| row.1).all(|answer| COUNTED.contains(answer)));
         }
     }
 }

@@ -39,7 +39,7 @@ fn reply(kind: LogKind, output: &[u8]) -> Option<(u8, usize)> {
     let (code, length) = kind.granted();
     match *output {
         [first, ..] if first == code && output.len() >= length => Some((0, length)),
-        [0x51, number @ (1..=14 | 19), ..] => Some((number, 2)),
+        [0x51, number @ (1..=14 | 18 | 19), ..] => Some((number, 2)),
         _ => None,
     }
 }

@@ -3,10 +3,11 @@
 use crate::aim::View;
 use crate::cipher::{self, Block};
 use crate::commands::Command;
-use crate::map::{Register, ALL_REGISTERS, COUNTER};
+use crate::map::{Register, ALL_REGISTERS};
 use crate::random::Random;
 use crate::spans;
 use crate::units;
+use crate::values;
 
 const FLAGGED: [Register; 5] = [
     Register::Read,
@@ -63,29 +64,13 @@ fn odd_length(random: &mut Random) -> Command {
     spans::write(random, register.address() + offset, count)
 }
 
-/// Header writes: the counter's next value, others, and other places and lengths.
-fn counter_write(random: &mut Random, view: View) -> Command {
-    let counter = view.counter();
-    let next = counter.wrapping_add(1);
-    let value = random.pick(&[next, counter, counter.wrapping_add(2), 0, next.swap_bytes()]);
-    let mut data = value.to_be_bytes().to_vec();
-    let mut address = COUNTER;
-    match random.below(6) {
-        0 => address = random.pick(&[0, 3, 5, 8]),
-        1 => data.truncate(random.pick(&[1, 4, 7])),
-        2 => data.resize(random.pick(&[9, 12]), 0),
-        _ => {}
-    }
-    Command::Write { address, data }
-}
-
 pub fn some_slip(random: &mut Random, view: View) -> Command {
     match random.below(10) {
         0..4 => flagged(random, view),
         4..6 => odd_pa(random),
         6 => odd_length(random),
         7 => Command::write_register(Register::Id, &random.bytes(16)),
-        _ => counter_write(random, view),
+        _ => values::counter_write(random, view),
     }
 }
 

@@ -5,23 +5,10 @@ use crate::cipher::Block;
 use crate::commands::Command;
 use crate::hosts::{self, Row, ROWS, SLOT};
 use crate::lists;
-use crate::map::{self, Map, SEGMENT, SEGMENTS};
+use crate::map::{SEGMENT, SEGMENTS};
 use crate::random::Random;
 use crate::sessions;
 use crate::spans;
-use crate::units::{self, Kind};
-
-/// Mostly a segment at stage 0, if there is one.
-pub fn some_stream(random: &mut Random, view: View, map: Map) -> usize {
-    let any = random.below(map.segments);
-    let is_stream = |k: &usize| units::kind(map::unit(view.tag, *k)) == Kind::Stream;
-    let from_any = (any..map.segments).chain(0..any);
-    if random.percent(80) {
-        from_any.into_iter().find(is_stream).unwrap_or(any)
-    } else {
-        any
-    }
-}
 
 /// An id that is mostly new; else zeros, one of the list or from behind it, or nearly one of the list.
 fn some_id(random: &mut Random, view: View, list: &[Row]) -> Block {

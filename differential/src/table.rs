@@ -1,4 +1,4 @@
-//! The answers that document 01 and request L4 let each place give, and the place that a command is at.
+//! The answers that document 01 and requests L1 and L4 let each place give, and the place that a command is at.
 
 use crate::commands::{Command, LogKind, LOG_COUNTS};
 use crate::logs::{Unreadable, ROOMS};
@@ -56,7 +56,7 @@ pub const READS: [Row; PLACES] = [
 
 pub const WRITES: [Row; PLACES] = [
     ("tag not sound", &[1]),
-    ("header", &[0, 2, 4, 12]),
+    ("header", &[0, 2, 4, 12, 18]),
     ("hidden", &[2, 4]),
     ("register READ", &[0, 2, 9, 10, 11]),
     ("register WRITE", &[0, 2, 9, 10, 11]),
@@ -84,8 +84,8 @@ pub const WRITES: [Row; PLACES] = [
     ("segment: default, M clear", &[0, 2, 6, 7, 8]),
     ("segment: default, model 0", &[0, 2, 6, 7, 8]),
     ("segment: model 1", &[0, 2, 6, 7, 8]),
-    // Well formed only with WR set, so never 6; the slot's rule is 12.
-    ("segment: model 2", &[0, 2, 7, 8, 12]),
+    // Well formed only with WR set, so never 6; the slot's rules are 12 and 18.
+    ("segment: model 2", &[0, 2, 7, 8, 12, 18]),
     ("segment: model 3, stage 0", &[0, 2, 7, 8]),
     ("segment: model 3, stage 1", &[0, 2, 7, 8]),
     // Well formed only with WR clear, so 6 before 7 and 8.
@@ -133,8 +133,8 @@ const PUBLIC_ROW: usize = 33;
 const OUTSIDE_ROW: usize = 34;
 
 /// A read in a log always has a good count and room, so never 2. Only 16 bytes can be right at a register, so only a
-/// write of 16 gives 10 and 11; 32 bytes leave a register, so never 9. 14 is an advance's or an insertion's, 19 an
-/// insertion's alone.
+/// write of 16 gives 10 and 11; 32 bytes leave a register, so never 9. 18 is for the eight bytes of a slot or of the
+/// counter. 14 is an advance's or an insertion's, 19 an insertion's alone.
 pub const IN_LOGS: [Row; LOG_KINDS] = [
     ("00 power-up", &[0, 16]),
     ("11 read 1", &[0, 1, 3, 4, 5, 6, 7, 8, 16]),
@@ -142,7 +142,7 @@ pub const IN_LOGS: [Row; LOG_KINDS] = [
     ("13 read 16", &[0, 1, 3, 4, 5, 6, 7, 8, 16]),
     ("14 read 32", &[0, 1, 3, 4, 5, 6, 7, 8, 16]),
     ("21 write 1", &[0, 1, 3, 4, 5, 6, 7, 8, 9, 12, 13, 16]),
-    ("22 write 8", &[0, 1, 3, 4, 5, 6, 7, 8, 9, 12, 13, 16]),
+    ("22 write 8", &[0, 1, 3, 4, 5, 6, 7, 8, 9, 12, 13, 16, 18]),
     ("23 write 16", &[0, 1, 3, 4, 5, 6, 7, 8, 9, 10, 11, 12, 13, 16]),
     ("24 write 32", &[0, 1, 3, 4, 5, 6, 7, 8, 12, 13, 16]),
     ("31 advance", &[0, 1, 3, 5, 7, 8, 14, 16]),
@@ -231,11 +231,11 @@ mod tests {
     #[test]
     fn each_refusal_is_in_the_set_where_the_papers_have_it() {
         assert_eq!(answers(&READS), [0, 1, 2, 3, 4, 5, 6, 7, 8]);
-        assert_eq!(answers(&WRITES), [0, 1, 2, 3, 4, 5, 6, 7, 8, 9, 10, 11, 12, 13]);
+        assert_eq!(answers(&WRITES), [0, 1, 2, 3, 4, 5, 6, 7, 8, 9, 10, 11, 12, 13, 18]);
         assert_eq!(answers(&ADVANCES), [0, 1, 3, 5, 7, 8, 14]);
         assert_eq!(answers(&INSERTS), [0, 1, 3, 5, 7, 8, 14, 19]);
         let calls: Vec<Row> = [READS, WRITES, ADVANCES, INSERTS].concat();
-        assert_eq!(answers(&calls), Vec::from_iter((0..=14).chain([19])));
+        assert_eq!(answers(&calls), Vec::from_iter((0..=14).chain([18, 19])));
     }
 
     #[test]

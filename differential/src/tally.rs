@@ -1,13 +1,13 @@
-//! How often each answer was met at each place, and what of the sets in `table` and `host_table` was not.
+//! How often each answer was met at each place and seat, and what of the sets in `table` and `seats` was not.
 
 use crate::commands::Command;
-use crate::host_table::{Seat, COUNTED, INSERTIONS, LISTED_EDITS, RESULTS, SLOT_READS};
 use crate::images::{damage_name, DAMAGES};
 use crate::logs::{Step, ROOMS};
+use crate::seats::{Seat, LISTS};
 use crate::table::{log_row, Row, ADVANCES, INSERTS, IN_LOGS, LOG_KINDS, PLACES, READS, STOPS, WRITES};
 use crate::units::WAYS;
 
-/// 0 is granted, then the refusals 1 to 14, the stops 15 and 16, and the refusal 19.
+/// 0 is granted, then the refusals 1 to 14, the stops 15 and 16, and the refusals 18 and 19.
 const ANSWERS: usize = 20;
 
 type Counts = [u64; ANSWERS];
@@ -21,10 +21,7 @@ pub struct Tally {
     writes: [Counts; PLACES],
     advances: [Counts; PLACES],
     inserts: [Counts; PLACES],
-    insertions: [Counts; INSERTIONS.len()],
-    slot_reads: [Counts; SLOT_READS.len()],
-    listed_edits: [Counts; LISTED_EDITS.len()],
-    results: [Counts; RESULTS.len()],
+    seats: [Vec<Counts>; LISTS.len()],
     logs: [Counts; LOG_KINDS],
     rooms: [Counts; ROOMS.len()],
     damages: [u64; DAMAGES],
@@ -42,10 +39,7 @@ impl Default for Tally {
             writes: [[0; ANSWERS]; PLACES],
             advances: [[0; ANSWERS]; PLACES],
             inserts: [[0; ANSWERS]; PLACES],
-            insertions: [[0; ANSWERS]; INSERTIONS.len()],
-            slot_reads: [[0; ANSWERS]; SLOT_READS.len()],
-            listed_edits: [[0; ANSWERS]; LISTED_EDITS.len()],
-            results: [[0; ANSWERS]; RESULTS.len()],
+            seats: LISTS.map(|(_, rows, _)| vec![[0; ANSWERS]; rows.len()]),
             logs: [[0; ANSWERS]; LOG_KINDS],
             rooms: [[0; ANSWERS]; ROOMS.len()],
             damages: [0; DAMAGES],
@@ -71,18 +65,12 @@ impl Tally {
         rows[row][usize::from(answer)] += 1;
     }
 
-    /// Counts a command at its seat too, which is that of `host_table::seat_of` on the tag as it was before.
-    pub fn seat(&mut self, seat: Seat, answer: u8) {
-        if !COUNTED.contains(&answer) {
-            return;
+    /// Counts a command at its seat too, which is that of `seats::seat_of` on the tag as it was before.
+    pub fn seat(&mut self, (list, row): Seat, answer: u8) {
+        let (_, _, counted) = LISTS[list as usize];
+        if counted.contains(&answer) {
+            self.seats[list as usize][row][usize::from(answer)] += 1;
         }
-        let counts = match seat {
-            Seat::Insertion(row) => &mut self.insertions[row],
-            Seat::SlotRead(row) => &mut self.slot_reads[row],
-            Seat::ListedEdit(row) => &mut self.listed_edits[row],
-            Seat::Result(row) => &mut self.results[row],
-        };
-        counts[usize::from(answer)] += 1;
     }
 
     pub fn run(&mut self, room: usize, stop: u8, steps: &[Step]) {
@@ -102,19 +90,19 @@ impl Tally {
         self.ill_formed[way] += 1;
     }
 
-    fn parts(&self) -> [Part<'_>; 10] {
-        [
+    fn parts(&self) -> Vec<Part<'_>> {
+        let mut parts: Vec<Part> = vec![
             ("read", &READS, &self.reads),
             ("write", &WRITES, &self.writes),
             ("advance", &ADVANCES, &self.advances),
             ("insert", &INSERTS, &self.inserts),
-            ("insert: what is against it", &INSERTIONS, &self.insertions),
-            ("read at model 4, stage 1", &SLOT_READS, &self.slot_reads),
-            ("edit of a listed unit", &LISTED_EDITS, &self.listed_edits),
-            ("edit of another, by result", &RESULTS, &self.results),
-            ("log runs: commands", &IN_LOGS, &self.logs),
-            (ENDS, &STOPS, &self.rooms),
-        ]
+        ];
+        for ((heading, rows, _), counts) in LISTS.iter().zip(&self.seats) {
+            parts.push((heading, rows, counts));
+        }
+        parts.push(("log runs: commands", &IN_LOGS, &self.logs));
+        parts.push((ENDS, &STOPS, &self.rooms));
+        parts
     }
 
     /// Commands granted and all commands, power-ups among both.

@@ -212,3 +212,24 @@ fn a_fault_that_both_sides_share() {
         "{told}"
     );
 }
+
+#[test]
+fn a_repeat_that_both_sides_call_a_gap() {
+    let call_it_a_gap = || Changed {
+        before: Some(|tag, data, address| (address == 4 && tag.get(4..12) == Some(data)).then_some(12)),
+        ..Changed::default()
+    };
+    let (left, right) = (call_it_a_gap(), call_it_a_gap());
+    let mut runs = Runs::new(1, &left, &right);
+    // Without logs: the runs over them are the reference's own.
+    for case in (0..1000).filter(|case| case % 3 != 2) {
+        runs.case(case, u64::MAX).expect("no difference");
+    }
+    assert_eq!(
+        runs.tally.outside_the_set(),
+        [
+            "write at header, by value, repeated, flag 0: 12",
+            "write at header, by value, repeated, flag 1: 12"
+        ]
+    );
+}

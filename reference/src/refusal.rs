@@ -1,7 +1,7 @@
 //! The refusals and the answer of a command.
 
-/// Why a command was refused. The discriminant is the number that the documents give it: 1 to 14, and 19. The numbers
-/// between are not given by commands on a tag.
+/// Why a command was refused. The discriminant is the number that the documents give it: 1 to 14, 18 and 19. The
+/// numbers between are not given by commands on a tag.
 #[derive(Clone, Copy, Debug, PartialEq, Eq)]
 #[repr(u8)]
 pub enum Refusal {
@@ -27,12 +27,14 @@ pub enum Refusal {
     FlagSet = 10,
     /// The response or the guard is wrong. This alone of the refusals sets the flag.
     WrongResponse = 11,
-    /// Not one aligned slot, or not the next value of the slot or counter.
+    /// Not one aligned slot, or a value of the slot or counter that is neither the next nor the one now stored.
     NotNextValue = 12,
     /// The result of the edit is not allowed.
     BadEdit = 13,
     /// There is no further stage to advance to, or the segment to insert is not model 4 at stage 0.
     NoNextStage = 14,
+    /// The very value now stored in the slot or counter.
+    Repeated = 18,
     /// The list of hosts does not take the id or the segment, or is itself in disorder.
     BadInsertion = 19,
 }
@@ -80,6 +82,9 @@ mod tests {
             Refusal::NoNextStage,
         ];
         assert!(all.iter().zip(1..).all(|(refusal, number)| refusal.number() == number));
-        assert_eq!(Refusal::BadInsertion.number(), 19);
+        assert_eq!(
+            [Refusal::Repeated, Refusal::BadInsertion].map(Refusal::number),
+            [18, 19]
+        );
     }
 }

@@ -119,12 +119,13 @@ fn read_keys(tag: &[u8], session: &Session, number: usize, address: usize, outpu
     Ok(())
 }
 
-/// The header takes one write: the next value of the roll-back counter.
+/// The header takes one write: the next value of the roll-back counter, which clears the flag. "18 at the roll-back
+/// counter leaves the flag as it is: a repeated counter write does not make the value usable again."
 fn write_header(tag: &mut [u8], address: usize, data: &[u8]) -> Answer {
-    let next: [u8; 8] = data.try_into().map_err(|_| Refusal::NeverTaken)?;
+    let written: [u8; 8] = data.try_into().map_err(|_| Refusal::NeverTaken)?;
     require(address == COUNTER, Refusal::NeverTaken)?;
-    require(is_next(counter(tag), next), Refusal::NotNextValue)?;
-    store(&mut tag[COUNTER..COUNTER + 8], &next);
+    check_value(counter(tag), written)?;
+    store(&mut tag[COUNTER..COUNTER + 8], &written);
     tag[FLAG] = 0;
     Ok(())
 }
@@ -161,24 +162,25 @@ fn write_segment(tag: &mut [u8], session: &Session, number: usize, address: usiz
     Ok(())
 }
 
-/// A slot takes the value after its own. Slots stand at multiples of 8, and so do segments.
+/// A slot takes the value after its own. Slots stand at multiples of 8, and so do segments. The shape is looked at
+/// first: "A bad shape stays 12 (at the header 4), also when the bytes equal what is stored."
 #[inline]
 fn write_slot(target: &mut [u8], address: usize, data: &[u8]) -> Answer {
     let slot: &mut [u8; SLOT] = target.try_into().map_err(|_| Refusal::NotNextValue)?;
-    let next: [u8; SLOT] = data.try_into().map_err(|_| Refusal::NotNextValue)?;
-    let aligned = address.is_multiple_of(SLOT);
-    require(
-        aligned && is_next(u64::from_be_bytes(*slot), next),
-        Refusal::NotNextValue,
-    )?;
-    *slot = next;
+    let written: [u8; SLOT] = data.try_into().map_err(|_| Refusal::NotNextValue)?;
+    require(address.is_multiple_of(SLOT), Refusal::NotNextValue)?;
+    check_value(u64::from_be_bytes(*slot), written)?;
+    *slot = written;
     Ok(())
 }
 
-/// Compared as whole numbers: nothing comes after the largest value.
+/// "When a well-shaped slot or roll-back write holds the very value now stored, give new refusal 18; 12 remains for
+/// the rest." Compared as whole numbers: nothing comes after the largest value.
 #[inline]
-fn is_next(value: u64, next: [u8; 8]) -> bool {
-    value.checked_add(1) == Some(u64::from_be_bytes(next))
+fn check_value(stored: u64, written: [u8; 8]) -> Answer {
+    let written = u64::from_be_bytes(written);
+    require(written != stored, Refusal::Repeated)?;
+    require(stored.checked_add(1) == Some(written), Refusal::NotNextValue)
 }
 
 /// Clears WR and sets RD, the move that models 1, 3 and 4 make themselves, whatever nE says.

@@ -1,7 +1,7 @@
-//! Counts visits on a tag: the write that adds one is granted, and its copy is refused. bindings/c/count_visits.c does
-//! the same and prints the same.
+//! Counts visits on a tag: the write that adds one is granted, its copy is told as counted already, and a write that
+//! leaves one out is refused. bindings/c/count_visits.c does the same and prints the same.
 
-use dringoleth::{read, run, write, Answer, Session, Stop};
+use dringoleth::{read, run, write, Answer, Refusal, Session, Stop};
 
 const UNIT: usize = 12288;
 const SLOT: usize = 16384;
@@ -25,6 +25,7 @@ fn print_visits(tag: &[u8], session: &Session) -> Answer {
 fn add_visit(tag: &mut [u8], session: &mut Session, visits: u64) {
     match write(tag, session, SLOT, &visits.to_be_bytes()) {
         Ok(()) => println!("visit {visits}: granted"),
+        Err(Refusal::Repeated) => println!("visit {visits}: already counted"),
         Err(refusal) => println!("visit {visits}: refused {}", refusal.number()),
     }
 }
@@ -33,8 +34,9 @@ fn main() -> Answer {
     let mut tag = counter_tag();
     let mut session = Session::power_up();
     print_visits(&tag, &session)?;
-    add_visit(&mut tag, &mut session, 1);
-    add_visit(&mut tag, &mut session, 1);
+    for visits in [1, 1, 3] {
+        add_visit(&mut tag, &mut session, visits);
+    }
     print_visits(&tag, &session)?;
 
     // Visit 2, a copy of it, and a read, as a log.

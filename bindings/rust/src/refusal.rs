@@ -1,4 +1,4 @@
-//! The refusals of a command, 1 to 14 and 19.
+//! The refusals of a command: 1 to 14, 18 and 19.
 
 use std::fmt;
 
@@ -20,11 +20,12 @@ pub enum Refusal {
     NotNext = 12,
     BadEdit = 13,
     OtherModel = 14,
+    Repeated = 18,
     BadInsertion = 19,
 }
 
 /// Each refusal with its meaning, in the order of the numbers.
-const REFUSALS: [(Refusal, &str); 15] = [
+const REFUSALS: [(Refusal, &str); 16] = [
     (Refusal::Unsound, "the tag is not sound"),
     (
         Refusal::Count,
@@ -48,12 +49,16 @@ const REFUSALS: [(Refusal, &str); 15] = [
         "this value of the roll-back counter was used already",
     ),
     (Refusal::WrongResponse, "the response or the guard is wrong"),
-    (Refusal::NotNext, "not one aligned slot, or not the next value"),
+    (
+        Refusal::NotNext,
+        "not one aligned slot, or neither the next value nor the one stored",
+    ),
     (Refusal::BadEdit, "the result of the edit is not allowed"),
     (
         Refusal::OtherModel,
         "another model, or not at the stage that the command is for",
     ),
+    (Refusal::Repeated, "the slot or counter holds this value already"),
     (
         Refusal::BadInsertion,
         "the id is zeros or listed, the segment is listed, or the list of hosts is full or damaged",
@@ -97,7 +102,7 @@ mod tests {
     #[test]
     fn each_number_is_its_refusals() {
         assert_eq!(Refusal::answer(0), Ok(()));
-        for number in (1..=14).chain([19]) {
+        for number in (1..=14).chain([18, 19]) {
             let refusal = Refusal::answer(number).unwrap_err();
             assert_eq!(refusal.number(), number);
             assert!(!refusal.meaning().is_empty());

@@ -4,6 +4,7 @@ use dringoleth::{advance, insert, read, run, write, Refusal, Run, Session, Stop}
 
 const PA: usize = 4080;
 const ID: usize = 4048;
+const UNIT: usize = 12288;
 
 /// One access-controlled segment, whose unit is all zeros.
 fn tag() -> Vec<u8> {
@@ -68,7 +69,6 @@ fn anything_is_answered() {
 #[test]
 fn an_insertion_lists_the_id_and_changes_the_unit() {
     const LIST: usize = 8192;
-    const UNIT: usize = 12288;
     let (mut tag, session) = (tag(), Session::power_up());
     let id: [u8; 16] = std::array::from_fn(|i| i as u8 + 1);
     assert_eq!(insert(&mut tag, &session, 0, &id), Err(Refusal::OtherModel));
@@ -79,6 +79,25 @@ fn an_insertion_lists_the_id_and_changes_the_unit() {
     assert_eq!(tag[LIST..LIST + 16], id);
     assert_eq!(tag[LIST + 16..LIST + 18], [0, 1]);
     assert_eq!(tag[UNIT..UNIT + 2], [0x81, 0x14]);
+}
+
+#[test]
+fn a_repeat_is_told_from_a_gap_and_changes_nothing() {
+    const COUNTER: usize = 4;
+    const FLAG: usize = 12;
+    const SLOT: usize = 16384;
+    let (mut tag, mut session) = (tag(), Session::power_up());
+    tag[UNIT..UNIT + 2].copy_from_slice(&[0xA5, 0x02]);
+    for address in [SLOT, COUNTER] {
+        let mut count = |tag: &mut [u8], value: u64| write(tag, &mut session, address, &value.to_be_bytes());
+        assert_eq!(count(&mut tag, 1), Ok(()));
+        tag[FLAG] = 1;
+        let before = tag.clone();
+        assert_eq!(count(&mut tag, 1), Err(Refusal::Repeated));
+        assert_eq!(count(&mut tag, 3), Err(Refusal::NotNext));
+        assert_eq!(tag, before);
+    }
+    assert_eq!(session, Session::power_up());
 }
 
 #[test]
@@ -120,7 +139,7 @@ fn a_run_tells_how_far_it_came() {
 fn a_refusal_says_what_is_wrong() {
     assert_eq!(
         Refusal::NotNext.to_string(),
-        "refusal 12: not one aligned slot, or not the next value"
+        "refusal 12: not one aligned slot, or neither the next value nor the one stored"
     );
     assert_eq!(
         Refusal::BadInsertion.to_string(),

@@ -154,6 +154,7 @@ pub fn number_of(refusal: Refusal) -> u8
         Refusal::OtherModel => 14,
         Refusal::Unreadable => 15,
         Refusal::NoRoom => 16,
+        Refusal::Repeated => 18,
         Refusal::BadInsertion => 19,
     }
 }

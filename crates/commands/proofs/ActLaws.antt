@@ -99,7 +99,7 @@ answer-done (verdict.Take r) m = refl
 answer-done (verdict.Refuse r) m = absurd (miss acting 5 tt m)
 
 abbrev pub quiets : List ℕ
-quiets = 0 ∷ 1 ∷ 2 ∷ 3 ∷ 4 ∷ 5 ∷ 6 ∷ 7 ∷ 8 ∷ 9 ∷ 11 ∷ 12 ∷ 13 ∷ 14 ∷ 15 ∷ 16 ∷ []
+quiets = 0 ∷ 1 ∷ 2 ∷ 3 ∷ 4 ∷ 5 ∷ 6 ∷ 7 ∷ 8 ∷ 9 ∷ 11 ∷ 12 ∷ 13 ∷ 14 ∷ 15 ∷ 16 ∷ 17 ∷ []
 
 pub quiet : (r : Refusal) → OneOf quiets (tagOf the-refusal.the-type r) → refusalStores (numberOf r) ≡ []
 quiet r m = by (eleven-or-none r)

@@ -8,7 +8,7 @@ use Rattle.rules.specs.declared.Model.{Model}
 use Rattle.rules.specs.declared.Model.the-variants.{Default, WriteOnce, Counter, Receiver, SharedKey}
 use Rattle.rules.specs.Map.{segmentAt}
 use Rattle.rules.specs.Units.{unitOf}
-use Rattle.rules.specs.Refusals.{Checks, lowest, slotRefuses, segmentWriteChecks}
+use Rattle.rules.specs.Refusals.{Checks, lowest, slotChecks, segmentWriteChecks}
 use Rattle.rules.proofs.MapLaws.{segments-aligned}
 use Rattle.commands.specs.declared.Verdict.{Verdict}
 use Rattle.commands.specs.Verdict.{Judged}
@@ -20,8 +20,8 @@ judged-as cs ds act v e j = record { number = j .number ∙ e; granted = λ f. j
 -- ---- a segment begins at a multiple of 8, so that an offset in it is aligned where the address is
 
 slot-at : (m : Model) (A k a : ℕ) (old bs : List ℕ) → segmentAt A k ≤ a
-    → slotRefuses m (a - segmentAt A k) old bs ≡ slotRefuses m a old bs
-unfolding slotRefuses
+    → slotChecks m (a - segmentAt A k) old bs ≡ slotChecks m a old bs
+unfolding slotChecks
 slot-at Default A k a old bs h = refl
 slot-at WriteOnce A k a old bs h = refl
 slot-at Counter A k a old bs h =

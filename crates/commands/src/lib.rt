@@ -7,14 +7,14 @@ ghost use mathlib.Core.List.{[], _∷_};
 ghost use mathlib.Core.Option.{some};
 ghost use Prim.Native.Nat.{_+_, _%_, _≤_, _<_};
 ghost use lib.ListN.{length};
-ghost use lib.Dec.{eqb};
-ghost use Rattle.rules.specs.Bytes.{byte, part, put, same, all};
+ghost use Rattle.rules.specs.declared.Model.the-variants.{Counter};
+ghost use Rattle.rules.specs.Bytes.{byte, part, put, same};
 ghost use Rattle.rules.specs.Map.{sound, segments, placeOf, unitAt};
 ghost use Rattle.rules.specs.Units.{unitOf, unitBytes, nameOf};
 ghost use Rattle.rules.specs.Hosts.{hosts, listed};
 ghost use Rattle.rules.specs.State.{state};
 ghost use Rattle.rules.specs.Answers.{refusalOf, numberOf};
-ghost use Rattle.rules.specs.Refusals.{lowest, granted, _when_else_, isNext, slotRefuses, segmentReadChecks, segmentWriteChecks, unitReadChecks, editChecks, editAllowed, canAdvance, advanceChecks, insertChecks, headerWriteChecks, readChecks, writeChecks};
+ghost use Rattle.rules.specs.Refusals.{lowest, granted, _when_else_, valueChecks, slotChecks, segmentReadChecks, segmentWriteChecks, unitReadChecks, editChecks, editAllowed, canAdvance, advanceChecks, insertChecks, headerWriteChecks, readChecks, writeChecks};
 ghost use Rattle.rules.specs.Effects.{apply, refusalStores};
 ghost use Rattle.units.specs.Decoded.{opened};
 ghost use Rattle.rules.specs.Command.{refusal, after, reply, filled};
@@ -169,19 +169,27 @@ fn read_sound(tag: &[u8], session: Session, at: usize, n: usize, output: &mut [u
 
 // ---- judges of writes
 
-// Whether eight bytes hold the value after that of eight others. Nothing wraps: 0 comes after no value.
-fn is_next(old: &[u8], new: &[u8]) -> bool
+// How eight bytes stand to the value that is stored: the next is granted, the same is 18, and any other 12. The difference
+// is taken only where it does not wrap.
+fn judge_value(old: &[u8], new: &[u8]) -> Answer
     requires { ⌜ (length (now old) ≡ 8) × (length (now new) ≡ 8) ⌝ }
-    ensures { λ r. ⌜ r ≡ isNext (now (old .entry)) (now (new .entry)) ⌝ }
+    ensures { λ r. ⌜ refusalOf r ≡ lowest (valueChecks true (now (old .entry)) (now (new .entry))) ⌝ }
 {
+    let stored = octets::number64(old, 0);
     let value = octets::number64(new, 0);
-    if value == 0 {
-        return false;
+    if value == stored {
+        return Answer::Refused(Refusal::Repeated);
     }
-    value - 1 == octets::number64(old, 0)
+    if value < stored {
+        return Answer::Refused(Refusal::NotNext);
+    }
+    if value - stored != 1 {
+        return Answer::Refused(Refusal::NotNext);
+    }
+    Answer::Done
 }
 
-// The only write that the header takes is the next value of the roll-back counter.
+// The only write that the header takes is a value of the roll-back counter.
 fn judge_header(tag: &[u8], at: usize, data: &[u8]) -> Answer
     requires { ⌜ 16 ≤ length (now tag) ⌝ }
     ensures { λ r. ⌜ refusalOf r ≡ lowest (headerWriteChecks (now (tag .entry)) at (now («data» .entry))) ⌝ }
@@ -189,39 +197,30 @@ fn judge_header(tag: &[u8], at: usize, data: &[u8]) -> Answer
     if !((at == 4) & (data.len() == 8)) {
         return Answer::Refused(Refusal::NeverTaken);
     }
-    if !is_next(&tag[4..12], data) {
-        return Answer::Refused(Refusal::NotNext);
-    }
-    Answer::Done
+    judge_value(&tag[4..12], data)
 }
 
-// Whether the data is the next value of an aligned slot that holds the old bytes.
-fn slot_fits(at: usize, old: &[u8], data: &[u8]) -> bool
+// A write for the old bytes of a counter segment, which takes one aligned slot.
+fn judge_slot(at: usize, old: &[u8], data: &[u8]) -> Answer
     requires { ⌜ length (now old) ≡ length (now «data») ⌝ }
-    ensures { λ r. ⌜ r ≡ all (eqb (at % 8) 0 ∷ eqb (length (now («data» .entry))) 8 ∷ isNext (now (old .entry)) (now («data» .entry)) ∷ []) ⌝ }
+    ensures { λ r. ⌜ refusalOf r ≡ lowest (slotChecks Counter at (now (old .entry)) (now («data» .entry))) ⌝ }
 {
-    if data.len() != 8 {
-        return false;
+    if !((at % 8 == 0) & (data.len() == 8)) {
+        return Answer::Refused(Refusal::NotNext);
     }
-    (at % 8 == 0) & is_next(old, data)
+    judge_value(old, data)
 }
 
 // What the model of segment k makes of a write. At the last stage of models 3 and 4 WR is clear, so that it does not come
 // here.
 fn judge_model(model: Model, k: usize, at: usize, old: &[u8], data: &[u8]) -> Verdict
     requires { ⌜ length (now old) ≡ length (now «data») ⌝ }
-    ensures { λ r. ⌜ Judged (12 when slotRefuses model at (now (old .entry)) (now («data» .entry)) else granted) (actOf k model) r ⌝ }
+    ensures { λ r. ⌜ Judged (slotChecks model at (now (old .entry)) (now («data» .entry))) (actOf k model) r ⌝ }
 {
     match model {
         Model::Default | Model::SharedKey(_) => Verdict::Store,
         Model::WriteOnce => Verdict::StoreOnce(k),
-        Model::Counter => {
-            if slot_fits(at, old, data) {
-                Verdict::Store
-            } else {
-                Verdict::Refuse(Refusal::NotNext)
-            }
-        }
+        Model::Counter => verdict_of(judge_slot(at, old, data), Verdict::Store),
         Model::Receiver(stage) => match stage {
             Stage::Zero => Verdict::Store,
             Stage::One => Verdict::Xor,

@@ -9,8 +9,10 @@ use lib.ListN.{length, take, drop, length-take, length-drop, length-append}
 use lib.Arith.{bin-ind}
 use lib.Bits.{bitXor, differ, xor-step, xor-zero-r}
 use lib.Seq.{ext-getD, getD-take, getD-drop}
-use borrow.Author.Tests.{eq-eqb}
+use lib.Dec.{eqb}
+use borrow.Author.Tests.{eq-eqb, eqb-true}
 use Rattle.rules.specs.Bytes.{part, put, byte, same, xor, bytesOf, number, numberFrom, Apart}
+use Rattle.rules.proofs.Tests.{true-false, and-true}
 
 -- ---- a store, byte by byte
 
@@ -153,6 +155,14 @@ pub same-refl : (xs : List ℕ) → same xs xs ≡ true
 unfolding same
 same-refl [] = refl
 same-refl (x ∷ xs) = rw (eq-eqb x x refl, same-refl xs)
+
+pub same-equal : (xs ys : List ℕ) → same xs ys ≡ true → xs ≡ ys
+unfolding same
+same-equal [] [] e = refl
+same-equal [] (y ∷ ys) e = true-false (sym e)
+same-equal (x ∷ xs) [] e = true-false (sym e)
+same-equal (x ∷ xs) (y ∷ ys) e =
+    let b = and-true (eqb x y) (same xs ys) e in ap₂ (λ z zs. z ∷ zs) (eqb-true x y (b .0)) (same-equal xs ys (b .1))
 
 -- ---- numbers as bytes
 

@@ -1,5 +1,5 @@
 -- Demand 3, second part: copies of granted slot writes are refused and change nothing.
-use Prim.Native.Nat.{ℕ, _+_, _≤_, _<_}
+use Prim.Native.Nat.{ℕ, _≤_, _<_}
 use mathlib.Core.Path.{_≡_, refl, ap, _∙_}
 use mathlib.Core.Logic.{_⊎_, inl, inr}
 use mathlib.Core.Bool.{true}
@@ -16,9 +16,9 @@ use Rattle.rules.specs.Run.{replies, final}
 use Rattle.rules.specs.Demand3.{slot, LockedCounter, valueAt, WritesLockedSlot, writes-slot, withGranted, Entry, CopiesOfGranted, CopiesRefused, withCopies, withoutCopies, own, ownReplies, copyReplies, copy, none-left, one-more}
 use Rattle.rules.specs.Claims.{Holds}
 use Rattle.rules.proofs.Places.{segment-holds, controlled}
-use Rattle.rules.proofs.Grants.{reply-is}
+use Rattle.rules.proofs.Grants.{reply-is, refused-reply}
 use Rattle.rules.proofs.Lawful.{sound-stays}
-use Rattle.rules.proofs.Slots.{slot-counts, locked-stays, counted-hit, next-value}
+use Rattle.rules.proofs.Slots.{slot-counts, locked-stays, next-value, written-value}
 use Rattle.rules.proofs.Refused.{refused-stays}
 use Rattle.rules.proofs.Segments.{ranged-not-11, a-write}
 
@@ -40,15 +40,11 @@ spent-made : (E : Cipher) (s : State) (k j : ℕ) (bs : List ℕ) → sound (s .
     → j < 512
     → length bs ≡ 8 → refusal E s (write (slot (s .tag) k j) bs) ≡ none
     → Spent (after E s (write (slot (s .tag) k j) bs)) (write (slot (s .tag) k j) bs)
-unfolding replyBy grant
 spent-made E s k j bs w lc l n e =
     let c = write (slot (s .tag) k j) bs in
     let g = sound-stays E s c w .same-segments in
-    let r : reply E s c ≡ done = reply-is E s c none e in
-    let v : valueAt (slot (s .tag) k j) (after E s c .tag) ≡ valueAt (slot (s .tag) k j) (s .tag) + 1 =
-    rw (r, counted-hit (slot (s .tag) k j) bs n) at (slot-counts E s k w (lc .counter) j c l) in
-    let u = next-value E s k w (lc .counter) j bs l n e in
-    spent k j bs (rw g) (locked-stays E s k c w lc) l n (rw g (omega (arith, v, u)))
+    let v = written-value E s k w (lc .counter) j bs l n e in
+    spent k j bs (rw g) (locked-stays E s k c w lc) l n (rw g (omega (arith, v)))
 
 -- what is spent is refused, and changes nothing
 spent-refused : (E : Cipher) (s : State) (c : Command) → sound (s .tag) ≡ true → Spent s c
@@ -63,7 +59,7 @@ spent-refused E s c w (spent k j bs e lc l n h) = rw e (by (refusal E s (write (
     by none f = let v = next-value E s k w (lc .counter) j bs l n f in absurd (omega arith)
     by (some m) f = (
       m,
-      (unfold replyBy in reply-is E s (write (slot (s .tag) k j) bs) (some m) f),
+      refused-reply E s (write (slot (s .tag) k j) bs) m f,
       refused-stays E s (write (slot (s .tag) k j) bs) m f
           (ranged-not-11 E s k (slot (s .tag) k j) 8 (Segment k) _ (controlled (lc .counter .there)) held (a-write bs n) m f),
     )

@@ -5,7 +5,7 @@ use mathlib.Core.Bool.{true}
 use mathlib.Core.List.{List, [], _∷_}
 use native.Mathlib.Omega.{arith}
 use native.Mathlib.Nat.{add-zero}
-use Rattle.rules.specs.Map.{sound, slotAt}
+use Rattle.rules.specs.Map.{sound, segments, slotAt}
 use Rattle.rules.specs.State.{Cipher, State}
 use Rattle.rules.specs.Command.{Command, after, reply}
 use Rattle.rules.specs.Run.{final, replies}
@@ -19,6 +19,20 @@ pub final-sound : (E : Cipher) (s : State) (cs : List Command) → sound (s .tag
 unfolding final
 final-sound E s [] w = w
 final-sound E s (c ∷ cs) w = final-sound E (after E s c) cs (sound-stays E s c w .stays-sound)
+
+pub final-segments : (E : Cipher) (s : State) (cs : List Command) → sound (s .tag) ≡ true
+    → segments (final E s cs .tag) ≡ segments (s .tag)
+unfolding final
+final-segments E s [] w = refl
+final-segments E s (c ∷ cs) w =
+    let g = sound-stays E s c w in final-segments E (after E s c) cs (g .stays-sound) ∙ g .same-segments
+
+pub final-locked : (E : Cipher) (s : State) (cs : List Command) (k : ℕ) → sound (s .tag) ≡ true → LockedCounter (s .tag) k
+    → LockedCounter (final E s cs .tag) k
+unfolding final
+final-locked E s [] k w lc = lc
+final-locked E s (c ∷ cs) k w lc =
+    final-locked E (after E s c) cs k (sound-stays E s c w .stays-sound) (locked-stays E s k c w lc)
 
 pub counting-holds : (E : Cipher) (s : State) (cs : List Command) (k j x : ℕ) → sound (s .tag) ≡ true
     → LockedCounter (s .tag) k

@@ -8,13 +8,13 @@ use Rattle.rules.specs.Map.{segments, publics, counter, flag, most, mana
 use Rattle.rules.specs.Units.{unitBytes, bit, stageOf, keyStageOf, modelOf, unitOf, nameOf, modelFits, formedness, wellFormed}
 use Rattle.rules.specs.Hosts.{readers, hostAt, hostsFrom, mostHosts, hosts, any, repeats, slotId, slotKey, slotMask, misses, readable}
 use Rattle.rules.specs.State.{poweredUp, withRead, withWrite, withEdit, withName, withId, withPa, pinIndex, pin, owner, ownerIndex, guard, encipheredCounter, response}
-use Rattle.rules.specs.Refusals.{lowest, isNext, headerWriteChecks, isSharedKey, hides, segmentReadChecks, slotRefuses, segmentWriteChecks, unitReadChecks, isReceiver, pastStageZero, sameBool, keepsModel, editAllowed, editChecks, canAdvance, advanceChecks, isFilling, isInserted, rowFits, listRefuses, insertChecks, plainChecks, responseChecks, nameChecks, commitChecks, registerChecks, readChecks, writeChecks}
+use Rattle.rules.specs.Refusals.{lowest, isNext, isRepeat, valueChecks, headerWriteChecks, isSharedKey, hides, segmentReadChecks, slotChecks, segmentWriteChecks, unitReadChecks, isReceiver, pastStageZero, sameBool, keepsModel, editAllowed, editChecks, canAdvance, advanceChecks, isFilling, isInserted, rowFits, listRefuses, insertChecks, plainChecks, responseChecks, nameChecks, commitChecks, registerChecks, readChecks, writeChecks}
 use Rattle.rules.specs.Effects.{apply, stored, readOnly, writeMove, advanced, advanceStores, joinedSlot, pairStores, joinStores, inserted, rowStore, insertStores, registerStores, registerSession, writeStores, writeSession, refusalStores}
 use Rattle.rules.specs.Command.{refusal, inPlace, checks, stores, storesIn, sessionIn, newSession, grant, replyBy, reply, after, afterBy}
 use Rattle.rules.specs.Run.{final, replies}
 use Rattle.rules.specs.Log.{kinds, kindIn, bodyLength, commandOf, wholeOf, first, parsed, parsedBy, commandsOf, readCode, encoded, encodedAll, roomFor, stopped, onward, carriedOut, runLog}
 use Rattle.rules.specs.Examples.{Hold, starred, insertions, hostTag, hostId, stages, errors, NotEmpty, RepeatsChange, owed, tagWith, counterTag, eight, begin, naming, got, xorWrite, nameWrite, xorState, nameState}
-use Rattle.rules.specs.Readings.{readings, zeros16, counterOrder, modelThreeEdits, modelOneEdits, advanceOrder, coveredName, indexRules, registerRules, pinRules, whichKey, countFirst, shortTag, defaultModel, logRoom}
+use Rattle.rules.specs.Readings.{readings, zeros16, counterOrder, modelThreeEdits, modelOneEdits, advanceOrder, coveredName, indexRules, registerRules, pinRules, whichKey, countFirst, shortTag, defaultModel, logRoom, repeatedValues}
 use Rattle.rules.specs.Readings.{listing, keyStages, insertOrder, whoseId, hiddenSlots, listedEdits, stageOneEdits, staleRows, threeHosts, badRows, hostReadings}
 
 -- all of them under one list of what is opened
@@ -24,7 +24,7 @@ unfolding part put numberFrom same zeros xor all segments publics counter flag m
     wellFormed readers hostAt hostsFrom mostHosts hosts any repeats slotId slotKey slotMask misses readable isSharedKey
     hides isFilling isInserted rowFits listRefuses insertChecks joinedSlot pairStores joinStores inserted rowStore
     insertStores poweredUp withRead withWrite withEdit withName withId withPa pinIndex ownerIndex guard pin owner
-    encipheredCounter response lowest isNext headerWriteChecks segmentReadChecks slotRefuses segmentWriteChecks
+    encipheredCounter response lowest isNext isRepeat valueChecks headerWriteChecks segmentReadChecks slotChecks segmentWriteChecks
     unitReadChecks isReceiver pastStageZero sameBool keepsModel editAllowed editChecks canAdvance advanceChecks
     plainChecks responseChecks nameChecks commitChecks registerChecks readChecks writeChecks apply stored
     readOnly writeMove advanced advanceStores registerStores registerSession writeStores writeSession
@@ -32,7 +32,7 @@ unfolding part put numberFrom same zeros xor all segments publics counter flag m
     final replies kinds kindIn bodyLength commandOf wholeOf first parsedBy parsed commandsOf readCode encoded
     encodedAll roomFor stopped onward carriedOut runLog tagWith counterTag eight begin naming got owed starred stages
     errors xorWrite nameWrite xorState nameState zeros16 counterOrder modelThreeEdits modelOneEdits advanceOrder
-    coveredName indexRules registerRules pinRules whichKey countFirst shortTag defaultModel logRoom readings
+    coveredName indexRules registerRules pinRules whichKey countFirst shortTag defaultModel logRoom repeatedValues readings
 computed = (
   refl,
   refl,
@@ -56,7 +56,7 @@ unfolding part put numberFrom same zeros xor all segments publics flag most mana
     registerNo rows liesIn find placeOf unitBytes bit stageOf keyStageOf modelOf unitOf nameOf modelFits formedness
     wellFormed readers hostAt hostsFrom mostHosts hosts any repeats slotId slotKey slotMask misses readable isSharedKey
     hides isFilling isInserted rowFits listRefuses insertChecks joinedSlot pairStores joinStores inserted rowStore
-    insertStores poweredUp lowest segmentReadChecks slotRefuses segmentWriteChecks readChecks writeChecks apply stored
+    insertStores poweredUp lowest segmentReadChecks slotChecks segmentWriteChecks readChecks writeChecks apply stored
     readOnly writeMove writeStores writeSession refusalStores inPlace checks refusal storesIn sessionIn stores newSession
     grant replyBy reply afterBy after final replies begin got owed bytesOf insertions hostTag hostId
 inserted-computed = refl
@@ -67,7 +67,7 @@ unfolding part put numberFrom same zeros xor all segments publics flag most mana
     registerNo rows liesIn find placeOf unitBytes bit stageOf keyStageOf modelOf unitOf nameOf modelFits formedness
     wellFormed readers hostAt hostsFrom mostHosts hosts any repeats slotId slotKey slotMask misses readable isSharedKey
     hides isFilling isInserted rowFits listRefuses insertChecks joinedSlot pairStores joinStores inserted rowStore
-    insertStores poweredUp lowest segmentReadChecks slotRefuses segmentWriteChecks unitReadChecks isReceiver pastStageZero
+    insertStores poweredUp lowest segmentReadChecks slotChecks segmentWriteChecks unitReadChecks isReceiver pastStageZero
     sameBool keepsModel editAllowed editChecks readChecks writeChecks apply stored readOnly writeMove writeStores
     writeSession refusalStores inPlace checks refusal storesIn sessionIn stores newSession grant replyBy reply afterBy after
     final replies begin got owed bytesOf tagWith hostTag hostId listing keyStages insertOrder whoseId hiddenSlots listedEdits

@@ -6,7 +6,7 @@ use mathlib.Core.List.{List, [], _∷_, _++_}
 use mathlib.Core.Option.{none, some}
 use native.Mathlib.Omega.{arith}
 use lib.ListN.{length, replicate, length-append}
-use borrow.Author.Tests.{leb-true, eq-eqb, ne-eqb, le-leb, le-ltb}
+use borrow.Author.Tests.{leb-true, eq-eqb, le-leb}
 use Rattle.rules.specs.declared.Session.{Session}
 use Rattle.rules.specs.declared.Model.{Model}
 use Rattle.rules.specs.declared.Register.the-variants.{Pa, Read}
@@ -17,16 +17,18 @@ use Rattle.rules.specs.Map.{sound, placeOf, segments, registerAt, regist
 use Rattle.rules.specs.Units.{wellFormed, unitBytes, unitOf, formedness}
 use Rattle.rules.specs.Hosts.{Host}
 use Rattle.rules.specs.State.{Cipher, State, withPa, pin, pinIndex, response, withRead, encipheredCounter}
-use Rattle.rules.specs.Refusals.{lowest, writeChecks, registerChecks, plainChecks, headerWriteChecks, isNext, responseChecks, isSharedKey, hides}
+use Rattle.rules.specs.Refusals.{lowest, writeChecks, registerChecks, plainChecks, headerWriteChecks, responseChecks, isSharedKey, hides}
 use Rattle.rules.specs.Effects.{apply, writeStores, writeSession, registerStores, registerSession}
-use Rattle.rules.specs.Command.{write, refusal, checks, inPlace, done, reply, after, replyBy, afterBy, grant, stores, storesIn, newSession, sessionIn, read, gives}
+use Rattle.rules.specs.Command.{write, refusal, done, reply, after, replyBy, afterBy, grant, stores, storesIn, newSession, sessionIn, read, gives}
 use Rattle.rules.specs.Run.{replies}
 use Rattle.rules.specs.Claims.{Holds}
 use Rattle.rules.specs.FourCommands.{HostReads, fourCommands}
 use Rattle.rules.proofs.Tests.{true-false, clears, none-applies, all-true}
+use Rattle.rules.proofs.Values.{value-next}
 use Rattle.rules.proofs.BytesLaws.{same-refl, byte-put, length-put, part-put, part-put-same, length-bytesOf, number-bytesOf, part-front}
 use Rattle.rules.proofs.MapLaws.{sound-facts, sound-long, sound-flag, sound-put, segments-put}
 use Rattle.rules.proofs.Places.{place-found, register-holds, header-holds}
+use Rattle.rules.proofs.Grants.{judged-there}
 use Rattle.rules.proofs.GrantedRead.{rights, segment-read}
 
 -- ---- a write that no check refuses
@@ -37,10 +39,7 @@ module _ (E : Cipher) (s : State) (p : Place) (a : ℕ) (bs : List ℕ) (w : sou
   found = place-found (s .tag) p a (length bs) (sound-facts (s .tag) w .most-segments) l h
 
   free : refusal E s (write a bs) ≡ none
-  unfolding refusal checks
-  free =
-      clears _ _ _ (ap not w) (clears _ _ _ (ne-eqb (length bs) 0 (omega arith)) (clears _ _ _ (le-ltb 4096 (length bs) m)
-      (rw found (unfold inPlace in e))))
+  free = judged-there E s p a bs w l m h ∙ e
 
   write-done : (reply E s (write a bs) ≡ done)
       × (after E s (write a bs) ≡ record { tag = apply (writeStores E s p a bs) (s .tag); session = writeSession E s p bs })
@@ -70,8 +69,8 @@ counter-written : (E : Cipher) (s : State) (next : List ℕ) → sound (s .tag) 
 unfolding writeStores writeSession apply counter
 counter-written E s next w l e =
     write-done E s Header 4 next w (omega arith) (omega arith) (rw l (header-holds (s .tag) 4 8 (omega arith)))
-    (unfold writeChecks headerWriteChecks isNext in
-    clears _ _ _ (ap not (eq-eqb (length next) 8 l)) (clears _ _ _ (ap not (eq-eqb _ _ e)) none-applies))
+    (unfold writeChecks headerWriteChecks in
+    clears _ _ _ (ap not (eq-eqb (length next) 8 l)) (value-next (part 4 8 (s .tag)) next e))
 
 -- ---- 3. READ
 

@@ -1,23 +1,23 @@
 -- A granted read: its bytes are all there, and fit the output; what grants one in a segment. Assumes nothing.
 use Prim.Native.Nat.{ℕ, _+_, _-_, _≤_, _<_}
-use mathlib.Core.Path.{_≡_, refl, ap, _∙_}
-use mathlib.Core.Bool.{Bool, true, false, _&&_, not}
+use mathlib.Core.Path.{_≡_, ap, _∙_}
+use mathlib.Core.Bool.{true, false, not}
 use mathlib.Core.Option.{none, some}
 use native.Mathlib.Omega.{arith}
 use lib.ListN.{length}
-use lib.Dec.{eqb}
-use borrow.Author.Tests.{not-false, ltb-false, eq-eqb, ne-eqb, le-ltb}
+use borrow.Author.Tests.{not-false, ltb-false, ne-eqb, le-ltb}
 use Rattle.rules.specs.declared.Place.the-variants.{Segment}
-use Rattle.rules.specs.Bytes.{part, same}
+use Rattle.rules.specs.Bytes.{part}
 use Rattle.rules.specs.Map.{sound, segments, segmentAt, placeOf}
-use Rattle.rules.specs.Units.{wellFormed, unitBytes, unitOf, nameOf}
+use Rattle.rules.specs.Units.{wellFormed, unitBytes, unitOf}
 use Rattle.rules.specs.Hosts.{hosts}
 use Rattle.rules.specs.State.{Cipher, State}
 use Rattle.rules.specs.Refusals.{hides, lowest, readChecks, segmentReadChecks}
 use Rattle.rules.specs.Command.{read, refusal, checks, reply, replyBy, grant, gives, inPlace}
-use Rattle.rules.specs.SharedKeys.{MayRead}
-use Rattle.rules.proofs.Tests.{passes, clears, none-applies}
-use Rattle.rules.proofs.BytesLaws.{length-part, same-refl}
+use Rattle.rules.specs.Claims.{MayRead}
+use Rattle.rules.proofs.Tests.{some-none, passes, clears, none-applies}
+use Rattle.rules.proofs.Rights.{may-read}
+use Rattle.rules.proofs.BytesLaws.{length-part}
 use Rattle.rules.proofs.MapLaws.{sound-facts}
 use Rattle.rules.proofs.Places.{the-map, place-found, segment-holds, controlled}
 use Rattle.rules.proofs.Grants.{in-place}
@@ -33,27 +33,19 @@ granted-read E s a n room e =
     let c2 = passes _ _ _ (c1 .1) in
     let c3 = passes _ _ _ (c2 .1) in
     let c4 = passes _ _ _ (c3 .1) in
-    let p = in-place _ _ (c4 .1) in
+    let p = in-place _ _ none some-none (c4 .1) in
     let i = the-map (s .tag) (not-false _ (c1 .0)) .in-tag (p .0) a n (p .1) in
     record { whole = length-part a n (s .tag) ∙ omega arith; fits = ltb-false room n (c4 .0) }
 
 -- ---- the rights to read a segment
-
--- `have` is what must hold where `asked` is set
-held : (asked have : Bool) → (asked ≡ true → have ≡ true) → (asked && not have) ≡ false
-held true have f = ap not (f refl)
-held false have f = refl
 
 pub rights : (s : State) (k a n : ℕ) → wellFormed (unitBytes (s .tag) k) ≡ true → unitOf (unitBytes (s .tag) k) .rd ≡ true
     → hides (unitOf (unitBytes (s .tag) k) .model) k (a - segmentAt (segments (s .tag)) k) n (hosts (s .tag)) ≡ false
     → MayRead (s .session) (unitBytes (s .tag) k) → lowest (readChecks s (Segment k) a n) ≡ none
 unfolding readChecks segmentReadChecks
 rights s k a n f r h m =
-    let u = unitBytes (s .tag) k in
-    let index = held (unitOf u .rdpin) (eqb (s .session .read) (unitOf u .read)) (λ e. eq-eqb _ _ (m .its-index e)) in
-    let name = held (unitOf u .pn) (same (s .session .name) (nameOf u))
-    (λ e. ap (λ x. same x (nameOf u)) (m .its-name e) ∙ same-refl (nameOf u)) in
-    clears _ _ _ (ap not f) (clears _ _ _ (ap not r) (clears _ _ _ h (clears _ _ _ index (clears _ _ _ name none-applies))))
+    let x = may-read (s .session) (unitBytes (s .tag) k) m in
+    clears _ _ _ (ap not f) (clears _ _ _ (ap not r) (clears _ _ _ h (clears _ _ _ (x .0) (clears _ _ _ (x .1) none-applies))))
 
 pub segment-read : (E : Cipher) (s : State) (k a n room : ℕ) → sound (s .tag) ≡ true → k < segments (s .tag) → 1 ≤ n
     → n ≤ room

@@ -1,26 +1,30 @@
 -- What a grant says: none of the checks of its place applies.
 use Prim.Native.Nat.{ℕ, _+_, _%_, _≤_, _<_}
-use mathlib.Core.Path.{_≡_, refl, sym, _∙_}
+use mathlib.Core.Path.{_≡_, refl, sym, ap, _∙_}
 use mathlib.Core.Logic.{_≢_}
-use mathlib.Core.Bool.{true, false, not}
-use mathlib.Core.List.{List, [], _∷_}
+use mathlib.Core.Bool.{true, _&&_, not}
+use mathlib.Core.List.{List}
 use mathlib.Core.Option.{Option, none, some}
 use native.Mathlib.Omega.{arith}
 use lib.ListN.{length}
 use lib.Dec.{eqb}
-use borrow.Author.Tests.{leb-true, ltb-true, eqb-true, eqb-false, not-false}
+use borrow.Author.Tests.{leb-true, ltb-true, eqb-true, eqb-false, ne-eqb, le-ltb, not-false}
 use Rattle.rules.specs.declared.Model.the-variants.{Counter}
 use Rattle.rules.specs.declared.Register.the-variants.{Commit}
 use Rattle.rules.specs.declared.Place.{Place}
 use Rattle.rules.specs.declared.Place.the-variants.{Header, UnitOf}
-use Rattle.rules.specs.Bytes.{number, all}
-use Rattle.rules.specs.Map.{placeOf, segments}
+use Rattle.rules.specs.Bytes.{number}
+use Rattle.rules.specs.Map.{sound, placeOf, segments}
 use Rattle.rules.specs.Units.{unitOf, unitBytes}
 use Rattle.rules.specs.State.{Cipher, State, pinIndex}
-use Rattle.rules.specs.Refusals.{lowest, writeChecks, Checks, headerWriteChecks, registerChecks, commitChecks, segmentWriteChecks, isNext, slotRefuses, editChecks, canAdvance, advanceChecks}
+use Rattle.rules.specs.Refusals.{lowest, writeChecks, Checks, headerWriteChecks, registerChecks, commitChecks, segmentWriteChecks, valueChecks, slotChecks, editChecks, canAdvance, advanceChecks}
 use Rattle.rules.specs.Effects.{Store, refusalStores, apply, writeStores}
-use Rattle.rules.specs.Command.{Command, stores, refusal, after, afterBy, reply, replyBy, write, inPlace, checks, storesIn, advance}
-use Rattle.rules.proofs.Tests.{some-none, passes, and-true, all-true, true-false}
+use Rattle.rules.specs.Command.{Command, stores, refusal, after, afterBy, reply, replyBy, refused, done, write, inPlace, checks, storesIn, advance}
+use Rattle.rules.specs.Claims.{Holds}
+use Rattle.rules.proofs.Tests.{some-none, passes, leaves, and-true, true-false}
+use Rattle.rules.proofs.Values.{value-granted}
+use Rattle.rules.proofs.MapLaws.{sound-facts}
+use Rattle.rules.proofs.Places.{place-found}
 
 -- the stores that a command makes, refused or not
 unfoldable pub madeBy : Option ℕ → Cipher → State → Command → List Store
@@ -40,6 +44,20 @@ pub reply-is : (E : Cipher) (s : State) (c : Command) (r : Option ℕ) → refus
 unfolding reply
 reply-is E s c r e = rw e
 
+pub refused-reply : (E : Cipher) (s : State) (c : Command) (n : ℕ) → refusal E s c ≡ some n → reply E s c ≡ refused n
+unfolding replyBy
+refused-reply E s c n e = reply-is E s c (some n) e
+
+-- a command that is done was refused by nothing
+pub done-granted : (E : Cipher) (s : State) (c : Command) → reply E s c ≡ done → refusal E s c ≡ none
+done-granted E s c d = by (refusal E s c) refl
+  where
+    by : (r : Option ℕ) → refusal E s c ≡ r → refusal E s c ≡ none
+    by none e = e
+    by (some m) e =
+        let f : refused m ≡ done = sym (refused-reply E s c m e) ∙ d in
+        let z : _≡_ {A = ℕ} 0 1 = cc in absurd (omega arith)
+
 -- ---- a granted write: its place, and that no check of the place applies
 
 pub record Granted (E : Cipher) (s : State) (a : ℕ) (bs : List ℕ) : Type 0 where
@@ -48,11 +66,20 @@ pub record Granted (E : Cipher) (s : State) (a : ℕ) (bs : List ℕ) : Type 0 w
   pub free : lowest (writeChecks E s place a bs) ≡ none
   pub long : 1 ≤ length bs
 
-pub in-place : (q : Option Place) (f : Place → Checks) → lowest (inPlace q f) ≡ none
-    → (p : Place) × (q ≡ some p) × (lowest (f p) ≡ none)
+-- an answer other than 3 is that of a place
+pub in-place : (q : Option Place) (f : Place → Checks) (r : Option ℕ) → some 3 ≢ r → lowest (inPlace q f) ≡ r
+    → (p : Place) × (q ≡ some p) × (lowest (f p) ≡ r)
 unfolding inPlace lowest
-in-place none f h = some-none h
-in-place (some p) f h = (p, refl, h)
+in-place none f r d h = absurd (d h)
+in-place (some p) f r d h = (p, refl, h)
+
+-- a write that lies in a place of a sound tag is judged there
+pub judged-there : (E : Cipher) (s : State) (p : Place) (a : ℕ) (bs : List ℕ) → sound (s .tag) ≡ true → 1 ≤ length bs
+    → length bs ≤ 4096 → Holds (s .tag) p a (length bs) → refusal E s (write a bs) ≡ lowest (writeChecks E s p a bs)
+unfolding refusal checks inPlace
+judged-there E s p a bs w l m h =
+    leaves _ _ _ (ap not w) ∙ leaves _ _ _ (ne-eqb (length bs) 0 (omega arith)) ∙ leaves _ _ _ (le-ltb 4096 (length bs) m)
+    ∙ rw (place-found (s .tag) p a (length bs) (sound-facts (s .tag) w .most-segments) l h)
 
 pub granted-write : (E : Cipher) (s : State) (a : ℕ) (bs : List ℕ) → refusal E s (write a bs) ≡ none → Granted E s a bs
 unfolding refusal checks
@@ -60,7 +87,7 @@ granted-write E s a bs e =
     let c1 = passes _ _ _ e in
     let c2 = passes _ _ _ (c1 .1) in
     let c3 = passes _ _ _ (c2 .1) in
-    let x = in-place _ _ (c3 .1) in
+    let x = in-place _ _ none some-none (c3 .1) in
     let z : length bs ≢ 0 = eqb-false _ _ (c2 .0) in
     record { place = x .0; found = x .1; free = x .2; long = omega arith }
 
@@ -89,18 +116,16 @@ commit-facts E s bs e =
 
 pub slot-facts : (i : ℕ) (name u : List ℕ) (o : ℕ) (old bs : List ℕ) → unitOf u .model ≡ Counter
     → lowest (segmentWriteChecks i name u o old bs) ≡ none → (o % 8 ≡ 0) × (length bs ≡ 8) × (number bs ≡ number old + 1)
-unfolding segmentWriteChecks isNext
+unfolding segmentWriteChecks
 slot-facts i name u o old bs h e =
     let c5 = passes _ _ _ e .1 in
     let c6 = passes _ _ _ c5 .1 in
     let c7 = passes _ _ _ c6 .1 in
     let c8 = passes _ _ _ c7 .1 in
-    let m : not (all (eqb (o % 8) 0 ∷ eqb (length bs) 8 ∷ isNext old bs ∷ [])) ≡ false =
-    unfold slotRefuses in (rw h at (passes _ _ _ c8 .0)) in
-    let x0 = all-true _ _ (not-false _ m) in
-    let x1 = all-true _ _ (x0 .1) in
-    let x2 = all-true _ _ (x1 .1) in
-    (eqb-true _ _ (x0 .0), eqb-true _ _ (x1 .0), eqb-true _ _ (x2 .0))
+    let m : lowest (valueChecks (eqb (o % 8) 0 && eqb (length bs) 8) old bs) ≡ none = unfold slotChecks in (rw h at c8) in
+    let v = value-granted _ old bs m in
+    let x = and-true _ _ (v .0) in
+    (eqb-true _ _ (x .0), eqb-true _ _ (x .1), v .1)
 
 -- no edit of a locked unit is granted
 pub edit-refused : (E : Cipher) (s : State) (k a : ℕ) (bs : List ℕ) → unitOf (unitBytes (s .tag) k) .ne ≡ true

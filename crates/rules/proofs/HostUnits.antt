@@ -1,13 +1,14 @@
 -- The unit of a segment of model 4: its fields at either stage, and what an insertion makes of it.
 use Prim.Native.Nat.{ℕ, zero, suc, _+_, _≤_}
 use mathlib.Core.Path.{_≡_, refl, sym, ap, ap₂, _∙_}
-use mathlib.Core.Logic.{_⊎_, inl, inr}
+use mathlib.Core.Logic.{_≢_, _⊎_, inl, inr}
 use mathlib.Core.Bool.{Bool, true, false, _&&_, _||_, not, cond}
 use mathlib.Core.List.{List, [], _∷_}
 use native.Mathlib.Omega.{arith}
 use lib.ListN.{getD, length}
 use lib.Dec.{eqb, leb}
 use borrow.Author.Tests.{ne-eqb}
+use Rattle.rules.specs.declared.KeyStage.{KeyStage}
 use Rattle.rules.specs.declared.KeyStage.the-variants.{Filling, Inserted}
 use Rattle.rules.specs.declared.Model.{Model}
 use Rattle.rules.specs.declared.Model.the-variants.{Default, SharedKey}
@@ -23,8 +24,8 @@ use Rattle.rules.proofs.Moves.{bit-set, read-only-bits}
 
 -- ---- "After insertion the segment is stage 1, RD only"
 
-clash : {B : Type 0} {m n : Model} → m ≡ n → isSharedKey m ≡ false → isSharedKey n ≡ true → B
-clash q e f = true-false (sym f ∙ sym (ap isSharedKey q) ∙ e)
+not-default : (g : KeyStage) → Default ≢ SharedKey g
+not-default g e = let z : _≡_ {A = ℕ} 0 1 = cc in absurd (omega arith)
 
 pub stages-differ : {B : Type 0} → SharedKey Filling ≡ SharedKey Inserted → B
 stages-differ e = true-false (unfold isFilling in ap isFilling e)
@@ -77,10 +78,10 @@ inserted-fields m g rd wr e f =
     by q (inr y) = (y .1, y .2)
 
 -- the last test of a well-formed unit, where its model is not the default
-modelled-fits : (u : List ℕ) (m : Model) → wellFormed u ≡ true → unitOf u .model ≡ m → isSharedKey m ≡ true
+pub modelled-fits : (u : List ℕ) (m : Model) → wellFormed u ≡ true → unitOf u .model ≡ m → Default ≢ m
     → (modelled u ≡ true) × (modelFits (modelNo u) (stageNo u) (unitOf u .rd) (unitOf u .wr) ≡ true)
     × (modelOf (modelNo u) (stageNo u) ≡ m)
-unfolding wellFormed formedness unitOf isSharedKey
+unfolding wellFormed formedness unitOf
 modelled-fits u m e f h =
     let x0 = all-true _ _ e in
     let x1 = all-true _ _ (x0 .1) in
@@ -96,13 +97,13 @@ modelled-fits u m e f h =
         → (modelled u ≡ true) × (modelFits (modelNo u) (stageNo u) (bit 7 (byte 0 u)) (bit 5 (byte 0 u)) ≡ true)
         × (modelOf (modelNo u) (stageNo u) ≡ m)
     by true q g d = (q, g, d)
-    by false q g d = clash d refl h
+    by false q g d = absurd (h d)
 
 -- a segment at stage 1 is open to reads and takes no write
 at-stage-one : (u : List ℕ) → wellFormed u ≡ true → unitOf u .model ≡ SharedKey Inserted
     → (unitOf u .rd ≡ true) × (unitOf u .wr ≡ false)
 at-stage-one u e f =
-    let x = modelled-fits u (SharedKey Inserted) e f (unfold isSharedKey in refl) in inserted-fields _ _ _ _ (x .1) (x .2)
+    let x = modelled-fits u (SharedKey Inserted) e f (not-default Inserted) in inserted-fields _ _ _ _ (x .1) (x .2)
 
 pub inserted-open : (u : List ℕ) → wellFormed u ≡ true → unitOf u .model ≡ SharedKey Inserted → unitOf u .rd ≡ true
 inserted-open u e f = at-stage-one u e f .0
@@ -118,7 +119,7 @@ module _ (u : List ℕ) (long : length u ≡ 32) (e : wellFormed u ≡ true) (f 
 
   fields : (modelled u ≡ true) × (bit 7 (byte 0 u) ≡ false) × (bit 5 (byte 0 u) ≡ true) × (byte 1 u ≡ 4)
   fields =
-      let x = modelled-fits u (SharedKey Filling) e f (unfold isSharedKey in refl) in
+      let x = modelled-fits u (SharedKey Filling) e f (not-default Filling) in
       let y = filling-fields _ _ _ _ (x .1) (x .2) in
       let m = y .0 in
       let g = y .1 in

@@ -1,10 +1,12 @@
 -- The laws of the rules, and the proofs of what is claimed of them.
 pub mod Tests
+pub mod Values
 pub mod BytesLaws
 pub mod StoreLaws
 pub mod MapLaws
 pub mod Places
 pub mod Grants
+pub mod Rights
 pub mod GrantedRead
 pub mod HostsLaws
 pub mod HostList
@@ -15,6 +17,7 @@ pub mod Locked
 pub mod Slots
 pub mod Counting
 pub mod Refused
+pub mod Repeats
 pub mod Segments
 pub mod Copies
 pub mod Exchange

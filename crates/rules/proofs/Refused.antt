@@ -9,24 +9,27 @@ use native.Mathlib.Omega.{arith}
 use lib.ListN.{length}
 use lib.Dec.{eqb, leb}
 use borrow.Author.Tests.{leb-true, eqb-true, eq-eqb, ne-eqb}
+use Rattle.rules.specs.declared.Model.{Model}
+use Rattle.rules.specs.declared.Model.the-variants.{Default, WriteOnce, Counter, Receiver, SharedKey}
 use Rattle.rules.specs.declared.Register.{Register}
 use Rattle.rules.specs.declared.Register.the-variants.{Read, Write, Edit, Name, Id, Commit, Pa}
 use Rattle.rules.specs.declared.Place.{Place}
 use Rattle.rules.specs.declared.Place.the-variants.{Header, Hidden, RegisterOf, Pins, Readers, UnitOf, Spare, Segment, Public}
 use Rattle.rules.specs.declared.Refusal.{Refusal}
-use Rattle.rules.specs.declared.Refusal.the-variants.{Unsound, Count, Outside, NeverTaken, Malformed, Forbidden, OtherPin, OtherName, BadRegister, FlagUsed, WrongResponse, NotNext, BadEdit, OtherModel, Unreadable, NoRoom, BadInsertion}
+use Rattle.rules.specs.declared.Refusal.the-variants.{Unsound, Count, Outside, NeverTaken, Malformed, Forbidden, OtherPin, OtherName, BadRegister, FlagUsed, WrongResponse, NotNext, BadEdit, OtherModel, Unreadable, NoRoom, Repeated, BadInsertion}
 use Rattle.rules.specs.Bytes.{put, byte}
 use Rattle.rules.specs.Map.{placeOf, sound, flag}
+use Rattle.rules.specs.Units.{unitBytes, unitOf}
 use Rattle.rules.specs.State.{Cipher, State}
 use Rattle.rules.specs.Answers.{numberOf}
-use Rattle.rules.specs.Refusals.{Checks, granted, _when_else_, lowest, registerChecks, responseChecks, nameChecks, commitChecks, plainChecks, writeChecks, headerWriteChecks, editChecks, segmentWriteChecks, readChecks, unitReadChecks, segmentReadChecks, advanceChecks, insertChecks}
+use Rattle.rules.specs.Refusals.{Checks, granted, _when_else_, lowest, registerChecks, responseChecks, nameChecks, commitChecks, plainChecks, writeChecks, headerWriteChecks, valueChecks, slotChecks, editChecks, segmentWriteChecks, readChecks, unitReadChecks, segmentReadChecks, advanceChecks, insertChecks}
 use Rattle.rules.specs.Effects.{refusalStores, apply, setFlag}
-use Rattle.rules.specs.Command.{write, inPlace, read, Command, advance, insert, powerUp, checks, refusal, refused, after, afterBy, filled, reply, replyBy}
+use Rattle.rules.specs.Command.{write, inPlace, read, Command, advance, insert, powerUp, checks, refusal, refused, after, afterBy, filled, reply}
 use Rattle.rules.specs.Claims.{Applies, LowestGiven, Among, refusalsOf, RefusalNamed, RefusedChangesNothing}
 use Rattle.rules.proofs.Tests.{and-true, true-false, some-none}
 use Rattle.rules.proofs.BytesLaws.{byte-put, byte-put-out, length-put}
 use Rattle.rules.proofs.MapLaws.{sound-long}
-use Rattle.rules.proofs.Grants.{reply-is}
+use Rattle.rules.proofs.Grants.{refused-reply}
 
 -- ---- the lists of checks ascend, so the first number that applies is the lowest
 
@@ -102,9 +105,23 @@ register-ascends E s Id a bs = refl
 register-ascends E s Commit a bs = refl
 register-ascends E s Pa a bs = refl
 
+slot-ascends : (a : ℕ) (bs : List ℕ) (m : Model) (o : ℕ) (old : List ℕ)
+    → ascends 8 (refusalsOf (write a bs)) (slotChecks m o old bs) ≡ true
+unfolding slotChecks valueChecks
+slot-ascends a bs Default o old = refl
+slot-ascends a bs WriteOnce o old = refl
+slot-ascends a bs Counter o old = refl
+slot-ascends a bs (Receiver g) o old = refl
+slot-ascends a bs (SharedKey g) o old = refl
+
+segment-ascends : (a : ℕ) (bs : List ℕ) (i : ℕ) (name u : List ℕ) (o : ℕ) (old : List ℕ)
+    → ascends 2 (refusalsOf (write a bs)) (segmentWriteChecks i name u o old bs) ≡ true
+unfolding segmentWriteChecks
+segment-ascends a bs i name u o old = slot-ascends a bs (unitOf u .model) o old
+
 write-ascends : (E : Cipher) (s : State) (a : ℕ) (bs : List ℕ) (q : Option Place)
     → ascends 2 (refusalsOf (write a bs)) (inPlace q (λ p. writeChecks E s p a bs)) ≡ true
-unfolding inPlace writeChecks headerWriteChecks editChecks segmentWriteChecks
+unfolding inPlace writeChecks headerWriteChecks valueChecks editChecks
 write-ascends E s a bs none = refl
 write-ascends E s a bs (some Header) = refl
 write-ascends E s a bs (some Hidden) = refl
@@ -113,7 +130,7 @@ write-ascends E s a bs (some Pins) = refl
 write-ascends E s a bs (some Readers) = refl
 write-ascends E s a bs (some (UnitOf k)) = refl
 write-ascends E s a bs (some Spare) = refl
-write-ascends E s a bs (some (Segment k)) = refl
+write-ascends E s a bs (some (Segment k)) = segment-ascends a bs _ _ (unitBytes (s .tag) k) _ _
 write-ascends E s a bs (some (Public k)) = refl
 
 read-ascends : (s : State) (a n room : ℕ) (q : Option Place)
@@ -148,10 +165,13 @@ lowest-given E s c =
 
 -- ---- the number is one of the table, and has its case of `Refusal`
 
+pub applies-among : (E : Cipher) (s : State) (c : Command) (n : ℕ) → Applies n (checks E s c)
+    → numbers (refusalsOf c) n ≡ true
+applies-among E s c n a = bounded 1 (refusalsOf c) (checks E s c) n (checks-ascend E s c) a .1
+
 number-among : (E : Cipher) (s : State) (c : Command) (n : ℕ) → refusal E s c ≡ some n
     → numbers (refusalsOf c) n ≡ true
-number-among E s c n e =
-    bounded 1 (refusalsOf c) (checks E s c) n (checks-ascend E s c) (lowest-given E s c .lowest-given n e .0) .1
+number-among E s c n e = applies-among E s c n (lowest-given E s c .lowest-given n e .0)
 
 -- a command of which 11 does not speak
 pub not-11 : (E : Cipher) (s : State) (c : Command) → numbers (refusalsOf c) 11 ≡ false
@@ -194,6 +214,7 @@ eleven-or-none BadEdit = inr refl
 eleven-or-none OtherModel = inr refl
 eleven-or-none Unreadable = inr refl
 eleven-or-none NoRoom = inr refl
+eleven-or-none Repeated = inr refl
 eleven-or-none BadInsertion = inr refl
 
 -- a refusal other than 11 leaves the state as it was
@@ -242,7 +263,7 @@ refused-changes-nothing E s c n e =
     }
   where
     answer : reply E s c ≡ refused n
-    answer = reply-is E s c (some n) e ∙ (unfold replyBy in refl)
+    answer = refused-reply E s c n e
 
     flagged : n ≡ 11 → after E s c .tag ≡ cond (eqb n 11) (put 12 (1 ∷ []) (s .tag)) (s .tag)
         → flag (after E s c .tag) ≡ 1

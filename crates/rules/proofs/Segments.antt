@@ -3,21 +3,23 @@
 use Prim.Native.Nat.{ℕ, zero, suc, _≤_}
 use mathlib.Core.Path.{_≡_, refl, sym, ap, ap₂, _∙_}
 use mathlib.Core.Logic.{_≢_, inl, inr}
-use mathlib.Core.Bool.{Bool, true, false, _||_}
+use mathlib.Core.Bool.{true, false}
 use mathlib.Core.List.{List, []}
 use mathlib.Core.Option.{Option, none, some}
 use native.Mathlib.Omega.{arith}
 use lib.ListN.{length}
-use lib.Dec.{eqb}
-use borrow.Author.Tests.{eqb-false, eq-eqb, ne-eqb}
+use borrow.Author.Tests.{eq-eqb, ne-eqb}
+use Rattle.rules.specs.declared.Model.{Model}
+use Rattle.rules.specs.declared.Model.the-variants.{Default, WriteOnce, Counter, Receiver, SharedKey}
 use Rattle.rules.specs.declared.Place.{Place}
 use Rattle.rules.specs.Map.{segments, publics, sound, placeOf}
+use Rattle.rules.specs.Units.{unitBytes, unitOf}
 use Rattle.rules.specs.State.{Cipher, State}
-use Rattle.rules.specs.Refusals.{Checks, granted, _when_else_, lowest, writeChecks, segmentWriteChecks}
+use Rattle.rules.specs.Refusals.{lowest, writeChecks, segmentWriteChecks, slotChecks, valueChecks}
 use Rattle.rules.specs.Effects.{Store, refusalStores, writeSession, apply}
 use Rattle.rules.specs.Command.{Command, read, write, refusal, checks, inPlace, stores, after, afterBy, newSession, sessionIn}
 use Rattle.rules.specs.Claims.{Applies, Holds}
-use Rattle.rules.proofs.Tests.{some-none, or-false, same-some}
+use Rattle.rules.proofs.Tests.{has, never-given, same-some}
 use Rattle.rules.proofs.StoreLaws.{Each}
 use Rattle.rules.proofs.MapLaws.{sound-facts}
 use Rattle.rules.proofs.Places.{Numbered, controlled, open-to-all, place-found, placed}
@@ -32,22 +34,19 @@ pub data Ranged (a n : ℕ) : Command → Type 0 where
 
 -- ---- 11 is none of its refusals
 
-abbrev has11 : Checks → Bool
-has11 granted = false
-has11 (n when b else cs) = eqb n 11 || has11 cs
+slot-lacks-11 : (m : Model) (o : ℕ) (old bs : List ℕ) → has 11 (slotChecks m o old bs) ≡ false
+unfolding slotChecks valueChecks
+slot-lacks-11 Default o old bs = refl
+slot-lacks-11 WriteOnce o old bs = refl
+slot-lacks-11 Counter o old bs = refl
+slot-lacks-11 (Receiver g) o old bs = refl
+slot-lacks-11 (SharedKey g) o old bs = refl
 
-not-11 : (cs : Checks) (n : ℕ) → has11 cs ≡ false → lowest cs ≡ some n → n ≢ 11
-unfolding lowest
-not-11 granted n h e = some-none (sym e)
-not-11 (m when true else cs) n h e =
-    let q : m ≡ n = cc in λ f. eqb-false m 11 (or-false (eqb m 11) (has11 cs) h .0) (q ∙ f)
-not-11 (m when false else cs) n h e = not-11 cs n (or-false (eqb m 11) (has11 cs) h .1) e
-
-write-not-11 : (E : Cipher) (s : State) (A P k a : ℕ) (bs : List ℕ) (p : Place) → Numbered A P k p
-    → has11 (writeChecks E s p a bs) ≡ false
+write-lacks-11 : (E : Cipher) (s : State) (A P k a : ℕ) (bs : List ℕ) (p : Place) → Numbered A P k p
+    → has 11 (writeChecks E s p a bs) ≡ false
 unfolding writeChecks segmentWriteChecks
-write-not-11 E s A P k a bs p (controlled h) = refl
-write-not-11 E s A P k a bs p (open-to-all l e h) = refl
+write-lacks-11 E s A P k a bs p (controlled h) = slot-lacks-11 (unitOf (unitBytes (s .tag) k) .model) _ _ bs
+write-lacks-11 E s A P k a bs p (open-to-all l e h) = refl
 
 -- a write that gets 11 has a byte
 eleven-long : (E : Cipher) (s : State) (a : ℕ) (bs : List ℕ) → refusal E s (write a bs) ≡ some 11 → 1 ≤ length bs
@@ -70,7 +69,7 @@ ranged-not-11 E s k a n p c u h (a-write bs l) m e =
     let e11 = e ∙ ap some q in
     let w = eleven-sound E s (write a bs) e11 in
     let f = place-found (s .tag) p a (length bs) (sound-facts (s .tag) w .most-segments) (eleven-long E s a bs e11) (rw l h) in
-    not-11 _ m (rw f (write-not-11 E s _ _ k a bs p u)) e q
+    never-given 11 _ (rw f (write-lacks-11 E s _ _ k a bs p u)) e11
 
 -- ---- its stores, and the session
 

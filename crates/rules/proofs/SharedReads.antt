@@ -18,7 +18,7 @@ use Rattle.rules.specs.State.{Cipher, State}
 use Rattle.rules.specs.Refusals.{lowest, isSharedKey, hides, readChecks, segmentReadChecks}
 use Rattle.rules.specs.Command.{read, checks, refusal, replyBy, grant}
 use Rattle.rules.specs.SharedKeys.{row, ReadsListed}
-use Rattle.rules.proofs.Tests.{true-false, same-some, and-true, all-true, all-and, all-none, passes}
+use Rattle.rules.proofs.Tests.{some-none, true-false, same-some, and-true, all-true, all-and, all-none, passes}
 use Rattle.rules.proofs.Places.{placed, place-holds}
 use Rattle.rules.proofs.Grants.{in-place, reply-is}
 use Rattle.rules.proofs.HostList.{At, at-host, at-one}
@@ -84,7 +84,7 @@ reads-listed E s k a n room e f m =
     let c3 = passes _ _ _ (c2 .1) in
     let c4 = passes _ _ _ (c3 .1) in
     let w = not-false _ (c1 .0) in
-    let p = in-place _ _ (c4 .1) in
+    let p = in-place _ _ none some-none (c4 .1) in
     let q : p .0 ≡ Segment k = same-some (sym (p .1) ∙ f) in
     let x = placed (s .tag) (Segment k) a n w (place-holds (s .tag) (Segment k) a n f) in
     let y = readable-slots (s .tag) k a n (x .1) (read-tests s k a n m (subst (λ r. lowest (readChecks s r a n) ≡ none) q (p .2))) in

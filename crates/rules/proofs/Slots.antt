@@ -177,6 +177,17 @@ module _ (E : Cipher) (s : State) (k : ℕ) (w : sound (s .tag) ≡ true) (cs : 
       by ss (elsewhere f g) = absurd (g (slot (s .tag) k j) (omega arith) (omega arith) (omega arith) (omega arith))
       by ss (to-slot i m f n v q) = v
 
+  -- and leaves it
+  pub written-value : (j : ℕ) (bs : List ℕ) → j < 512 → length bs ≡ 8 → refusal E s (write (slot (s .tag) k j) bs) ≡ none
+      → valueAt (slot (s .tag) k j) (after E s (write (slot (s .tag) k j) bs) .tag) ≡ number bs
+  unfolding replyBy grant
+  written-value j bs l n e =
+      let x = slot (s .tag) k j in
+      let r : reply E s (write x bs) ≡ done = reply-is E s (write x bs) none e in
+      let v : valueAt x (after E s (write x bs) .tag) ≡ valueAt x (s .tag) + 1 =
+      rw (r, counted-hit x bs n) at (slot-counts j (write x bs) l) in
+      v ∙ sym (next-value j bs l n e)
+
 -- ---- a locked counter segment stays one
 
 put-none : (u : List ℕ) → put 0 [] u ≡ u

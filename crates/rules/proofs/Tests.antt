@@ -1,12 +1,16 @@
 -- Small facts on tests, and on lists of checks: what it means that none of them applies.
 use Prim.Native.Nat.{ℕ}
 use mathlib.Core.Path.{_≡_, refl, sym, _∙_}
+use mathlib.Core.Logic.{_≢_, inl, inr}
 use mathlib.Core.Bool.{Bool, true, false, _&&_, _||_}
 use mathlib.Core.List.{List, [], _∷_}
 use mathlib.Core.Option.{none, some}
 use native.Mathlib.Omega.{arith}
+use lib.Dec.{eqb}
+use borrow.Author.Tests.{eqb-false}
 use Rattle.rules.specs.Bytes.{all}
 use Rattle.rules.specs.Refusals.{Checks, lowest, _when_else_, granted}
+use Rattle.rules.specs.Claims.{Applies}
 
 pub true-false : {A : Type 0} → true ≡ false → A
 true-false e = let z : _≡_ {A = ℕ} 0 1 = cc in absurd (omega arith)
@@ -26,6 +30,13 @@ pub or-false : (a b : Bool) → (a || b) ≡ false → (a ≡ false) × (b ≡ f
 or-false false false e = (refl, refl)
 or-false false true e = true-false e
 or-false true b e = true-false e
+
+pub or-first : (a b : Bool) → a ≡ true → (a || b) ≡ true
+or-first a b e = rw e
+
+pub or-second : (a b : Bool) → b ≡ true → (a || b) ≡ true
+or-second true b e = refl
+or-second false b e = e
 
 -- ---- a list of tests that all hold
 
@@ -65,6 +76,38 @@ pub leaves : (n : ℕ) (b : Bool) (cs : Checks) → b ≡ false → lowest (n wh
 unfolding lowest
 leaves n true cs e = true-false e
 leaves n false cs e = refl
+
+-- another number is given: the first does not apply, and a later one gives it
+pub given-later : (n : ℕ) (b : Bool) (cs : Checks) (m : ℕ) → n ≢ m → lowest (n when b else cs) ≡ some m
+    → (b ≡ false) × (lowest cs ≡ some m)
+unfolding lowest
+given-later n true cs m h e = absurd (h (same-some e))
+given-later n false cs m h e = (refl, e)
+
+-- the last number is given: its test holds
+pub given-last : (n : ℕ) (b : Bool) (m : ℕ) → lowest (n when b else granted) ≡ some m → b ≡ true
+unfolding lowest
+given-last n true m e = refl
+given-last n false m e = some-none (sym e)
+
+-- what is given applies, and stands on the list
+pub given-applies : (n : ℕ) (cs : Checks) → lowest cs ≡ some n → Applies n cs
+unfolding lowest
+given-applies n granted e = some-none (sym e)
+given-applies n (m when true else cs) e = inl (sym (same-some e), refl)
+given-applies n (m when false else cs) e = inr (given-applies n cs e)
+
+abbrev pub has : ℕ → Checks → Bool
+has n granted = false
+has n (m when b else cs) = eqb m n || has n cs
+
+pub not-there : (n : ℕ) (cs : Checks) → has n cs ≡ false → Applies n cs → ⊥
+not-there n granted h a = a
+not-there n (m when b else cs) h (inl a) = eqb-false m n (or-false (eqb m n) (has n cs) h .0) (sym (a .0))
+not-there n (m when b else cs) h (inr a) = not-there n cs (or-false (eqb m n) (has n cs) h .1) a
+
+pub never-given : (n : ℕ) (cs : Checks) → has n cs ≡ false → lowest cs ≡ some n → ⊥
+never-given n cs h e = not-there n cs h (given-applies n cs e)
 
 -- two tests with one number are one test
 pub joined : (n : ℕ) (a b : Bool) (cs : Checks) → lowest (n when a else n when b else cs) ≡ lowest (n when a || b else cs)

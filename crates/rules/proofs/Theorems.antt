@@ -7,6 +7,7 @@ use Rattle.rules.proofs.Locked.{locked-unit}
 use Rattle.rules.proofs.Counting.{one-answer-each}
 use Rattle.rules.proofs.Refused.{lowest-given, refusal-named, refused-changes-nothing}
 use Rattle.rules.proofs.Told.{answers-told}
+use Rattle.rules.proofs.Repeats.{repeat-told, never-both, copy-told}
 use Rattle.rules.proofs.Demand3.{demand-3}
 use Rattle.rules.proofs.Calls.{calls-follow, calls-demand-3, refused-leaves, refused-reads}
 use Rattle.rules.proofs.RunLaws.{runs-continue}
@@ -41,6 +42,9 @@ theorems =
       refusal-named = refusal-named;
       answers-told = answers-told;
       refused-changes-nothing = refused-changes-nothing;
+      repeat-told = repeat-told;
+      never-both = never-both;
+      copy-told = copy-told;
       the-map = the-map;
       no-spare = no-spare;
       sizes = sizes;

@@ -7,6 +7,7 @@ use mathlib.Core.Bool.{Bool, true, false}
 use mathlib.Core.List.{List, [], _∷_}
 use mathlib.Core.Option.{none, some}
 use lib.ListN.{length, drop, replicate}
+use Rattle.rules.specs.declared.Session.{Session}
 use Rattle.rules.specs.declared.KeyStage.the-variants.{Filling, Inserted}
 use Rattle.rules.specs.declared.Model.{Model}
 use Rattle.rules.specs.declared.Model.the-variants.{Default, WriteOnce, Counter, Receiver, SharedKey}
@@ -14,11 +15,11 @@ use Rattle.rules.specs.declared.Place.{Place}
 use Rattle.rules.specs.declared.Place.the-variants.{Spare, Segment}
 use Rattle.rules.specs.declared.Answer.{Answer}
 use Rattle.rules.specs.declared.Refusal.{Refusal}
-use Rattle.rules.specs.declared.Refusal.the-variants.{Unsound, Count, Outside, NeverTaken, Malformed, Forbidden, OtherPin, OtherName, BadRegister, FlagUsed, WrongResponse, NotNext, BadEdit, OtherModel, BadInsertion}
+use Rattle.rules.specs.declared.Refusal.the-variants.{Unsound, Count, Outside, NeverTaken, Malformed, Forbidden, OtherPin, OtherName, BadRegister, FlagUsed, WrongResponse, NotNext, BadEdit, OtherModel, Repeated, BadInsertion}
 use Rattle.rules.specs.declared.Stop.{Stop}
 use Rattle.rules.specs.Bytes.{byte, put, part}
 use Rattle.rules.specs.Map.{Row, row, rows, segments, publics, placeOf, flag, sound}
-use Rattle.rules.specs.Units.{unitBytes, unitOf, bit}
+use Rattle.rules.specs.Units.{unitBytes, unitOf, nameOf, bit}
 use Rattle.rules.specs.State.{Cipher, State}
 use Rattle.rules.specs.Answers.{numberOf, refusalOf, stopNumber, codeOf}
 use Rattle.rules.specs.Refusals.{Checks, granted, _when_else_}
@@ -75,7 +76,7 @@ refusalsOf (read a n room) =
     Unsound ∷ Count ∷ Outside ∷ NeverTaken ∷ Malformed ∷ Forbidden ∷ OtherPin ∷ OtherName ∷ []
 refusalsOf (write a bs) =
     Unsound ∷ Count ∷ Outside ∷ NeverTaken ∷ Malformed ∷ Forbidden ∷ OtherPin ∷ OtherName ∷ BadRegister ∷ FlagUsed
-    ∷ WrongResponse ∷ NotNext ∷ BadEdit ∷ []
+    ∷ WrongResponse ∷ NotNext ∷ BadEdit ∷ Repeated ∷ []
 refusalsOf (advance k) = Unsound ∷ Outside ∷ Malformed ∷ OtherPin ∷ OtherName ∷ OtherModel ∷ []
 refusalsOf (insert k id) = Unsound ∷ Outside ∷ Malformed ∷ OtherPin ∷ OtherName ∷ OtherModel ∷ BadInsertion ∷ []
 refusalsOf powerUp = []
@@ -107,6 +108,16 @@ pub record RefusedChangesNothing (E : Cipher) (s : State) (c : Command) (n : ℕ
   pub flag-set : n ≡ 11 → flag (after E s c .tag) ≡ 1
   pub other-bytes : (i : ℕ) → i ≢ 12 → byte i (after E s c .tag) ≡ byte i (s .tag)
   pub same-length : length (after E s c .tag) ≡ length (s .tag)
+
+-- ---- the rights that a unit asks for, held in a session: to read its segment, and to write it
+
+pub record MayRead (v : Session) (u : List ℕ) : Type 0 where
+  pub its-index : unitOf u .rdpin ≡ true → v .read ≡ unitOf u .read
+  pub its-name : unitOf u .pn ≡ true → v .name ≡ nameOf u
+
+pub record MayWrite (v : Session) (u : List ℕ) : Type 0 where
+  pub its-index : unitOf u .wrpin ≡ true → v .write ≡ unitOf u .write
+  pub its-name : unitOf u .pn ≡ true → v .name ≡ nameOf u
 
 -- ---- a sound tag stays sound, and what no command may write stays as it was: hidden part and registers, PIN 0; reader
 -- IDs change by granted insertions alone (SharedKeys.antt says how)

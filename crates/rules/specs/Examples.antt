@@ -62,7 +62,7 @@ unfoldable pub starred : List Example
 starred =
     runs 12 (begin counterTag)
     (0x22 ∷ 0 ∷ 0 ∷ 0x40 ∷ 0 ∷ eight 0 1 ++ 0x22 ∷ 0 ∷ 0 ∷ 0x40 ∷ 0 ∷ eight 0 1 ++ 0x12 ∷ 0 ∷ 0 ∷ 0x40 ∷ 0 ∷ [])
-    31 (0x50 ∷ 0x51 ∷ 0x0C ∷ 0x42 ∷ eight 0 1) none
+    31 (0x50 ∷ 0x51 ∷ 0x12 ∷ 0x42 ∷ eight 0 1) none
     ∷ sends (begin (put 16384 (eight 0 255) counterTag)) (write 16384 (eight 1 0) ∷ []) (done ∷ [])
     ∷ sends (begin (put 16384 (eight 0 255) counterTag)) (write 16384 (eight 1 1) ∷ []) (refused 12 ∷ [])
     ∷ sends (begin (put 16384 (replicate 8 255) counterTag)) (write 16384 (replicate 8 0) ∷ []) (refused 12 ∷ [])

@@ -15,6 +15,7 @@ pub mod Calls
 pub mod Runs
 pub mod CCalls
 pub mod Claims
+pub mod Repeats
 pub mod SharedKeys
 pub mod FourCommands
 pub mod Examples

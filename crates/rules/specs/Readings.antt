@@ -1,4 +1,4 @@
--- Where document 01, or L4 of document 02, can be read in two ways: inputs that tell the readings apart, with the answers
+-- Where document 01, or L1 or L4 of document 02, can be read in two ways: inputs that tell the readings apart, with the answers
 -- of the one that is taken. docs/DECISIONS.md has each question under the name used here. Assumes nothing.
 use Prim.Native.Nat.{ℕ, _+_, _*_}
 use mathlib.Core.List.{List, [], _∷_, _++_}
@@ -175,10 +175,27 @@ logRoom =
     ∷ runs 2 (begin counterTag) (0x00 ∷ 0x15 ∷ []) 1 (0x50 ∷ []) (some 16)
     ∷ []
 
+-- document 02, L1: a full slot that is written again is 18, and its way to 0 a 12; the stored bytes in another shape are
+-- 12, at the header 4; a roll-back value written again is 18 and leaves the flag set; 7 comes first
+unfoldable pub repeatedValues : List Example
+repeatedValues =
+    sends (begin (put 16384 (replicate 8 255) counterTag))
+    (write 16384 (replicate 8 255)
+    ∷ write 16384 (replicate 8 0)
+    ∷ write 16388 (replicate 4 255 ++ replicate 4 0)
+    ∷ write 16392 (replicate 16 0)
+    ∷ [])
+    (refused 18 ∷ refused 12 ∷ refused 12 ∷ refused 12 ∷ [])
+    ∷ sends (begin (put 12 (1 ∷ []) counterTag))
+    (write 4 (replicate 4 0) ∷ write 4 (eight 0 0) ∷ read 12 1 1 ∷ [])
+    (refused 4 ∷ refused 18 ∷ gives (1 ∷ []) ∷ [])
+    ∷ sends (begin (put 12295 (7 ∷ []) (tagWith 0xB5 0x02))) (write 16384 (eight 0 0) ∷ []) (refused 7 ∷ [])
+    ∷ []
+
 unfoldable pub readings : List Example
 readings =
     counterOrder ++ modelThreeEdits ++ modelOneEdits ++ advanceOrder ++ coveredName ++ indexRules ++ registerRules
-    ++ pinRules ++ whichKey ++ countFirst ++ shortTag ++ defaultModel ++ logRoom
+    ++ pinRules ++ whichKey ++ countFirst ++ shortTag ++ defaultModel ++ logRoom ++ repeatedValues
 
 -- ---- document 02, L4. Row i of the list is at 8192 + 18 i, the segment number plus one 16 bytes behind it.
 

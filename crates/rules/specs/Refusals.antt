@@ -1,8 +1,8 @@
--- Document 01, "What a command does" and "Refusal numbers": what refuses a command in a place, 4 to 14; document 02, L4:
--- what refuses an insertion, 19 among it. Assumes nothing. `t` is the tag, `u` the bytes of a unit, `bs` the bytes to be
--- written; `read`, `write`, `edit` and `name` are the session's.
+-- Document 01, "What a command does" and "Refusal numbers": what refuses a command in a place, 4 to 14; document 02, L1:
+-- a value written again, 18; L4: what refuses an insertion, 19 among it. Assumes nothing. `t` is the tag, `u` the bytes of
+-- a unit, `bs` the bytes to be written; `read`, `write`, `edit` and `name` are the session's.
 use Prim.Native.Nat.{ℕ, _+_, _-_, _%_}
-use mathlib.Core.Bool.{Bool, true, false, _&&_, not, cond}
+use mathlib.Core.Bool.{Bool, true, false, _&&_, _||_, not, cond}
 use mathlib.Core.List.{List, [], _∷_}
 use mathlib.Core.Option.{Option, none, some}
 use lib.ListN.{length}
@@ -44,11 +44,22 @@ never = 4 when true else granted
 unfoldable pub isNext : List ℕ → List ℕ → Bool
 isNext old bs = eqb (number bs) (number old + 1)
 
+-- they hold the value of the old ones
+unfoldable pub isRepeat : List ℕ → List ℕ → Bool
+isRepeat old bs = eqb (number bs) (number old)
+
+-- a write over a stored value, well shaped or not. Document 02, L1: "When a well-shaped slot or roll-back write holds the
+-- very value now stored, give new refusal 18; 12 remains for the rest."
+unfoldable pub valueChecks : (shaped : Bool) (old bs : List ℕ) → Checks
+valueChecks shaped old bs =
+    12 when not (shaped && (isNext old bs || isRepeat old bs)) else
+    18 when shaped && isRepeat old bs else
+    granted
+
 unfoldable pub headerWriteChecks : List ℕ → ℕ → List ℕ → Checks
 headerWriteChecks t a bs =
     4 when not (eqb a 4 && eqb (length bs) 8) else
-    12 when not (isNext (part 4 8 t) bs) else
-    granted
+    valueChecks true (part 4 8 t) bs
 
 -- ---- "Segment read: RD set; if RDPIN, the validated read index equals the unit's; if PN, the session name equals
 -- the unit's." Document 02, L4: "a read there gets 6 unless its segment is listed and it lies wholly in slots of listed
@@ -79,12 +90,12 @@ segmentReadChecks read name u k o n hs =
 
 -- "Model 2 takes one aligned slot of eight bytes holding the old value plus one": `bs` for `old` at offset `o` of the
 -- segment
-unfoldable pub slotRefuses : Model → ℕ → List ℕ → List ℕ → Bool
-slotRefuses Default o old bs = false
-slotRefuses WriteOnce o old bs = false
-slotRefuses Counter o old bs = not (all (eqb (o % 8) 0 ∷ eqb (length bs) 8 ∷ isNext old bs ∷ []))
-slotRefuses (Receiver g) o old bs = false
-slotRefuses (SharedKey g) o old bs = false
+unfoldable pub slotChecks : Model → ℕ → List ℕ → List ℕ → Checks
+slotChecks Default o old bs = granted
+slotChecks WriteOnce o old bs = granted
+slotChecks Counter o old bs = valueChecks (eqb (o % 8) 0 && eqb (length bs) 8) old bs
+slotChecks (Receiver g) o old bs = granted
+slotChecks (SharedKey g) o old bs = granted
 
 unfoldable pub segmentWriteChecks : (write : ℕ) (name u : List ℕ) (o : ℕ) (old bs : List ℕ) → Checks
 segmentWriteChecks write name u o old bs =
@@ -92,8 +103,7 @@ segmentWriteChecks write name u o old bs =
     6 when not (unitOf u .wr) else
     7 when unitOf u .wrpin && not (eqb write (unitOf u .write)) else
     8 when unitOf u .pn && not (same name (nameOf u)) else
-    12 when slotRefuses (unitOf u .model) o old bs else
-    granted
+    slotChecks (unitOf u .model) o old bs
 
 -- ---- "Unit read: allowed, but with PN set no byte of the name": the bytes end at offset `o` of the unit
 

@@ -5,19 +5,18 @@ use mathlib.Core.Logic.{_≢_}
 use mathlib.Core.Bool.{true, false}
 use mathlib.Core.List.{List, [], _∷_}
 use lib.ListN.{length, replicate}
-use Rattle.rules.specs.declared.Session.{Session}
 use Rattle.rules.specs.declared.KeyStage.the-variants.{Inserted}
 use Rattle.rules.specs.declared.Model.the-variants.{SharedKey}
 use Rattle.rules.specs.Bytes.{byte, part, xor, Apart}
 use Rattle.rules.specs.Map.{segments, segmentAt, unitAt}
-use Rattle.rules.specs.Units.{bit, wellFormed, unitBytes, unitOf, nameOf}
+use Rattle.rules.specs.Units.{bit, wellFormed, unitBytes, unitOf}
 use Rattle.rules.specs.Hosts.{Host, hosts, hostAt, readers, readersAt, listed, hostSlotAt, slotId, slotKey, slotMask}
 use Rattle.rules.specs.State.{Cipher, State}
 use Rattle.rules.specs.Refusals.{isSharedKey}
 use Rattle.rules.specs.Effects.{slotIn}
 use Rattle.rules.specs.Command.{Command, read, insert, reply, gives, after}
 use Rattle.rules.specs.Run.{final}
-use Rattle.rules.specs.Claims.{bits}
+use Rattle.rules.specs.Claims.{bits, MayRead}
 
 -- row i of the list
 abbrev pub row : List ℕ → ℕ → Host
@@ -122,10 +121,6 @@ KeysShared E s k id =
     → PairOf (s .tag) (final E (after E s (insert k id)) cs .tag) k id i
 
 -- ---- and each of the two hosts reads its slot of the pair, if it holds the rights that its segment's unit asks for
-
-pub record MayRead (v : Session) (u : List ℕ) : Type 0 where
-  pub its-index : unitOf u .rdpin ≡ true → v .read ≡ unitOf u .read
-  pub its-name : unitOf u .pn ≡ true → v .name ≡ nameOf u
 
 -- the slot at a, in segment l
 abbrev pub SlotRead : Cipher → State → (l a : ℕ) → Type 0

@@ -1,20 +1,23 @@
 -- All that is proved of the rules, in one record. Each line says of which ciphers, states and commands a claim holds;
--- the claims themselves stand in Demand3, Calls, Runs, CCalls, Claims, SharedKeys, FourCommands and Examples. Assumes nothing.
+-- the claims themselves stand in Demand3, Calls, Runs, CCalls, Claims, Repeats, SharedKeys, FourCommands and Examples. Assumes
+-- nothing.
 use Prim.Native.Nat.{ℕ, _<_}
 use mathlib.Core.Path.{_≡_}
 use mathlib.Core.Bool.{true}
 use mathlib.Core.List.{List}
 use mathlib.Core.Option.{none, some}
+use lib.ListN.{length}
 use Rattle.rules.specs.declared.Place.the-variants.{Segment}
 use Rattle.rules.specs.Map.{sound, segments, placeOf}
 use Rattle.rules.specs.Units.{unitOf, unitBytes}
 use Rattle.rules.specs.State.{Cipher, State}
 use Rattle.rules.specs.Command.{Command, read, insert, refusal, after}
-use Rattle.rules.specs.Demand3.{Demand3, LogDemand3}
+use Rattle.rules.specs.Demand3.{LockedCounter, Demand3, LogDemand3}
 use Rattle.rules.specs.Calls.{CallsFollow, CallsDemand3, RefusedLeaves, RefusedReads}
 use Rattle.rules.specs.Runs.{RunsDemand3, RunsLeave, RunsContinue}
 use Rattle.rules.specs.CCalls.{CalledIsCall, RunCalledIsRun, NothingLost, SessionFits}
 use Rattle.rules.specs.Claims.{LowestGiven, RefusalNamed, AnswersTold, RefusedChangesNothing, TheMap, NoSpare, Sizes, SoundStays, LockedUnit, MovesExact, PowerUpClears, OneAnswerEach, LogIsItsCommands}
+use Rattle.rules.specs.Repeats.{RepeatTold, NeverBoth, CopyTold}
 use Rattle.rules.specs.Refusals.{isSharedKey}
 use Rattle.rules.specs.SharedKeys.{ReadsListed, InsertionLeaves, ListGrows, UnitInserted, KeysShared, KeysRead}
 use Rattle.rules.specs.FourCommands.{HostReads}
@@ -45,6 +48,11 @@ pub record Theorems : Type 0 where
   pub answers-told : AnswersTold
   pub refused-changes-nothing : (E : Cipher) (s : State) (c : Command) (n : ℕ) → refusal E s c ≡ some n
       → RefusedChangesNothing E s c n
+  -- a value written again (document 02, L1)
+  pub repeat-told : (E : Cipher) (s : State) (a : ℕ) (bs : List ℕ) → sound (s .tag) ≡ true → RepeatTold E s a bs
+  pub never-both : (E : Cipher) (s : State) (c : Command) → NeverBoth E s c
+  pub copy-told : (E : Cipher) (s : State) (k j : ℕ) (bs : List ℕ) (cs : List Command) → sound (s .tag) ≡ true
+      → LockedCounter (s .tag) k → j < 512 → length bs ≡ 8 → CopyTold E s k j bs cs
   -- the tag
   pub the-map : (t : List ℕ) → sound t ≡ true → TheMap t
   pub no-spare : (t : List ℕ) → sound t ≡ true → segments t ≡ 128 → NoSpare t

@@ -71,7 +71,7 @@ pub enum Place {
     Public(usize),
 }
 
-/// The refusals 1 to 16 and 19, in the order of their numbers.
+/// The refusals 1 to 16, 18 and 19, in the order of their numbers; 17 is the cipher's.
 pub enum Refusal {
     Unsound,
     Count,
@@ -89,6 +89,7 @@ pub enum Refusal {
     OtherModel,
     Unreadable,
     NoRoom,
+    Repeated,
     BadInsertion,
 }
 

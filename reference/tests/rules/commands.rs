@@ -93,7 +93,7 @@ fn header_takes_the_next_counter_only() {
     assert_eq!(host.write(4, &[0; 7]), Err(4));
     assert_eq!(host.write(4, &[0; 9]), Err(4));
     assert_eq!(host.write(FLAG, &[0]), Err(4));
-    assert_eq!(host.write(COUNTER, &0u64.to_be_bytes()), Err(12));
+    assert_eq!(host.write(COUNTER, &0u64.to_be_bytes()), Err(18));
     assert_eq!(host.write(COUNTER, &2u64.to_be_bytes()), Err(12));
     assert_eq!(host.write(COUNTER, &1u64.to_be_bytes()), Ok(()));
     assert_eq!(host.read(0, 16), Ok(hex("0001 0000 0000000000000001 00 000000")));
@@ -103,7 +103,7 @@ fn header_takes_the_next_counter_only() {
 fn full_counter_does_not_go_back_to_0() {
     let mut host = Host::new(1, 0).with(COUNTER, &[0xFF; 8]);
     assert_eq!(host.write(COUNTER, &[0; 8]), Err(12));
-    assert_eq!(host.write(COUNTER, &[0xFF; 8]), Err(12));
+    assert_eq!(host.write(COUNTER, &[0xFF; 8]), Err(18));
 }
 
 #[test]
@@ -113,7 +113,7 @@ fn slots() {
     assert_eq!(write(0, 1), Ok(()));
     assert_eq!(write(255, 256), Ok(()));
     assert_eq!(write(255, 257), Err(12));
-    assert_eq!(write(255, 255), Err(12));
+    assert_eq!(write(255, 255), Err(18));
     assert_eq!(write(u64::MAX, 0), Err(12));
     assert_eq!(write(u64::MAX - 1, u64::MAX), Ok(()));
     let mut host = slot(0);

@@ -112,7 +112,13 @@ impl Host {
     }
 
     pub fn counter(&self) -> u64 {
-        u64::from_be_bytes(self.tag[COUNTER..FLAG].try_into().unwrap())
+        self.number(COUNTER)
+    }
+
+    /// The whole number in the eight bytes at an address, or 0 if the tag does not have them.
+    pub fn number(&self, address: usize) -> u64 {
+        let bytes = self.tag.get(address..address + 8);
+        bytes.map_or(0, |bytes| u64::from_be_bytes(bytes.try_into().unwrap()))
     }
 
     /// Writes the next counter, which clears the flag.

@@ -27,7 +27,20 @@ fn check_all(host: &mut Host, log: &str, reply: &str) {
 #[test]
 fn slot_log() {
     let log = "22 00004000 0000000000000001 22 00004000 0000000000000001 12 00004000";
-    check_all(&mut Host::unit(0xA5, 0x02), log, "50 51 0C 42 0000000000000001");
+    check_all(&mut Host::unit(0xA5, 0x02), log, "50 51 12 42 0000000000000001");
+}
+
+#[test]
+fn repeats_and_gaps_do_not_stop_a_run() {
+    for address in ["00004000", "00000004"] {
+        let write = |value: u64| format!("22 {address} {value:016X} ");
+        let log: String = [0, 2, 1, 1, 0, u64::MAX, 2].map(write).concat();
+        check_all(
+            &mut Host::unit(0xA5, 0x02),
+            &format!("{log} 12 {address}"),
+            "5112 510C 50 5112 510C 510C 50 42 0000000000000002",
+        );
+    }
 }
 
 #[test]

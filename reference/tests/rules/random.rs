@@ -49,11 +49,11 @@ impl Numbers {
         host.with(4100, &[byte])
     }
 
-    /// Data that is often the next slot or counter value, a response or a unit's bytes.
-    fn data(&mut self, host: &Host, count: usize) -> Vec<u8> {
-        let value = (host.counter() + 1).to_be_bytes();
+    /// Data that is often the next slot or counter value or the one now stored, a response or a unit's bytes.
+    fn data(&mut self, host: &Host, address: usize, count: usize) -> Vec<u8> {
+        let value = host.number(address).wrapping_add(self.of(&[0, 1, 1]));
         match (count, self.below(4)) {
-            (8, 0..3) => value.to_vec(),
+            (8, 0..3) => value.to_be_bytes().to_vec(),
             (16, 0..2) => host.response(&[0; 16]).to_vec(),
             (16, 2) => pa(self.of(&[0, 0, 1, 256]), self.of(&[0, 3, 4])).to_vec(),
             (1, 0..3) => vec![self.of(&[0xA5, 0x21, 0xA0, 0x02, 0])],
@@ -90,7 +90,7 @@ fn step(host: &mut Host, numbers: &mut Numbers, log: &mut Vec<u8>, replies: &mut
                 .map(|data| [vec![0x41 + size as u8], data].concat())
         }
         _ => {
-            let data = numbers.data(host, count);
+            let data = numbers.data(host, address, count);
             log.push(0x21 + size as u8);
             log.extend((address as u32).to_be_bytes());
             log.extend(&data);

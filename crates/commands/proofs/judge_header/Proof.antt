@@ -1,10 +1,9 @@
--- `commands::judge_header` meets its contract: test by test. Assumes nothing.
-use mathlib.Core.Path.{sym, ap, _∙_}
-use mathlib.Core.Bool.{not}
+-- `commands::judge_header` meets its contract: the shape, then the value. Assumes nothing.
+use mathlib.Core.Path.{sym, _∙_}
 use native.Mathlib.Omega.{arith}
 use lib.Dec.{eqb}
 use borrow.Author.Tests.{eqb-true, not-false}
-use Rattle.rules.proofs.Tests.{and-true, gives, leaves, none-applies}
+use Rattle.rules.proofs.Tests.{and-true, gives, leaves}
 use Rattle.octets.proofs.Laws.{length-lent}
 use Rattle.rules.specs.Bytes.{part}
 use Rattle.rules.specs.Refusals.{headerWriteChecks}
@@ -16,43 +15,33 @@ returns : tie.Need-returns
 unfolding headerWriteChecks
 returns c = sym (gives 4 _ _ (c .if1 .taken))
 
-sub-is-next : tie.Need-sub-is-next
-sub-is-next c = search needs
+sub-judge-value : tie.Need-sub-judge-value
+sub-judge-value c = search needs
 
-part-is-next-start : tie.Need-part-is-next-start
-part-is-next-start c = search needs
+part-judge-value-start : tie.Need-part-judge-value-start
+part-judge-value-start c = search needs
 
-part-is-next-end : tie.Need-part-is-next-end
-part-is-next-end c = search needs
+part-judge-value-end : tie.Need-part-judge-value-end
+part-judge-value-end c = search needs
 
-is-next-requires : tie.Need-is-next-requires
+judge-value-requires : tie.Need-judge-value-requires
 unfolding part
-is-next-requires c κs =
+judge-value-requires c κs =
     let start = c .before .before .before .before in
     let both = and-true (eqb (start .args .at) 4) _ (not-false _ (c .before .if1 .left)) in
     (length-lent 4 8 (start .args .tag .now) (omega arith), eqb-true _ _ (both .1))
 
 returns-2 : tie.Need-returns-2
 unfolding headerWriteChecks part
-returns-2 c =
-    sym (leaves 4 _ _ (c .before .before .before .if1 .left)
-    ∙ gives 12 _ _ (ap not (sym (c .before .is-next .ensures)) ∙ c .if2 .taken))
-
-returns-3 : tie.Need-returns-3
-unfolding headerWriteChecks part
-returns-3 c =
-    sym (leaves 4 _ _ (c .before .before .before .if1 .left)
-    ∙ leaves 12 _ _ (ap not (sym (c .before .is-next .ensures)) ∙ c .if2 .left)
-    ∙ none-applies)
+returns-2 c = c .judge-value .ensures ∙ sym (leaves 4 _ _ (c .before .before .if1 .left))
 
 pub judge-header-spec : {M : Type 1} → statement M
 judge-header-spec =
     tie.close
     (tie.spec
     returns
-    sub-is-next
-    part-is-next-start
-    part-is-next-end
-    is-next-requires
-    returns-2
-    returns-3)
+    sub-judge-value
+    part-judge-value-start
+    part-judge-value-end
+    judge-value-requires
+    returns-2)

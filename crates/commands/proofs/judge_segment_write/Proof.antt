@@ -10,7 +10,7 @@ use Rattle.rules.specs.declared.Unit.{Unit}
 use Rattle.rules.specs.Bytes.{same}
 use Rattle.rules.specs.Units.{nameOf}
 use Rattle.rules.specs.Answers.{refusalOf}
-use Rattle.rules.specs.Refusals.{lowest, _when_else_, granted, slotRefuses, segmentWriteChecks}
+use Rattle.rules.specs.Refusals.{lowest, _when_else_, slotChecks, segmentWriteChecks}
 use Rattle.units.specs.declared.Decoded.the-variants.{Unit as Whole}
 use Rattle.units.specs.Decoded.{decoded}
 use Rattle.units.proofs.Laws.{decoded-whole}
@@ -26,7 +26,7 @@ checks-of : (write : ℕ) (name u : List ℕ) (o : ℕ) (old bs : List ℕ) (x :
     → b ≡ same name (nameOf u)
     → lowest (segmentWriteChecks write name u o old bs)
     ≡ lowest (6 when not (x .wr) else 7 when x .wrpin && not (eqb write (x .write)) else 8 when x .pn && not b else
-    12 when slotRefuses (x .model) o old bs else granted)
+    slotChecks (x .model) o old bs)
 unfolding segmentWriteChecks
 checks-of write name u o old bs x b e f = formed u x _ e ∙ rw (decoded-whole u x e .1, f)
 
