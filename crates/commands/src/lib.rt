@@ -200,7 +200,7 @@ fn judge_header(tag: &[u8], at: usize, data: &[u8]) -> Answer
     judge_value(&tag[4..12], data)
 }
 
-// A write for the old bytes of a counter segment, which takes one aligned slot.
+// What a counter segment answers to data for its old bytes: one aligned slot first, then the value.
 fn judge_slot(at: usize, old: &[u8], data: &[u8]) -> Answer
     requires { ⌜ length (now old) ≡ length (now «data») ⌝ }
     ensures { λ r. ⌜ refusalOf r ≡ lowest (slotChecks Counter at (now (old .entry)) (now («data» .entry))) ⌝ }

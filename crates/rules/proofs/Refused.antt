@@ -10,7 +10,6 @@ use lib.ListN.{length}
 use lib.Dec.{eqb, leb}
 use borrow.Author.Tests.{leb-true, eqb-true, eq-eqb, ne-eqb}
 use Rattle.rules.specs.declared.Model.{Model}
-use Rattle.rules.specs.declared.Model.the-variants.{Default, WriteOnce, Counter, Receiver, SharedKey}
 use Rattle.rules.specs.declared.Register.{Register}
 use Rattle.rules.specs.declared.Register.the-variants.{Read, Write, Edit, Name, Id, Commit, Pa}
 use Rattle.rules.specs.declared.Place.{Place}
@@ -27,6 +26,7 @@ use Rattle.rules.specs.Effects.{refusalStores, apply, setFlag}
 use Rattle.rules.specs.Command.{write, inPlace, read, Command, advance, insert, powerUp, checks, refusal, refused, after, afterBy, filled, reply}
 use Rattle.rules.specs.Claims.{Applies, LowestGiven, Among, refusalsOf, RefusalNamed, RefusedChangesNothing}
 use Rattle.rules.proofs.Tests.{and-true, true-false, some-none}
+use Rattle.rules.proofs.Values.{slot-cases}
 use Rattle.rules.proofs.BytesLaws.{byte-put, byte-put-out, length-put}
 use Rattle.rules.proofs.MapLaws.{sound-long}
 use Rattle.rules.proofs.Grants.{refused-reply}
@@ -107,12 +107,8 @@ register-ascends E s Pa a bs = refl
 
 slot-ascends : (a : ℕ) (bs : List ℕ) (m : Model) (o : ℕ) (old : List ℕ)
     → ascends 8 (refusalsOf (write a bs)) (slotChecks m o old bs) ≡ true
-unfolding slotChecks valueChecks
-slot-ascends a bs Default o old = refl
-slot-ascends a bs WriteOnce o old = refl
-slot-ascends a bs Counter o old = refl
-slot-ascends a bs (Receiver g) o old = refl
-slot-ascends a bs (SharedKey g) o old = refl
+unfolding valueChecks
+slot-ascends a bs m o old = slot-cases (λ cs. ascends 8 (refusalsOf (write a bs)) cs ≡ true) o old bs refl refl m
 
 segment-ascends : (a : ℕ) (bs : List ℕ) (i : ℕ) (name u : List ℕ) (o : ℕ) (old : List ℕ)
     → ascends 2 (refusalsOf (write a bs)) (segmentWriteChecks i name u o old bs) ≡ true

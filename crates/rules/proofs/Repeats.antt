@@ -1,5 +1,5 @@
 -- Document 02, L1: how a write of a value is answered, and that a copy of a granted one is told as a repeat.
-use Prim.Native.Nat.{ℕ, zero, suc, _-_, _/_, _%_, _<_}
+use Prim.Native.Nat.{ℕ, zero, suc, _-_, _/_, _%_, _≤_, _<_}
 use mathlib.Core.Path.{_≡_, refl, sym, ap, subst, _∙_}
 use mathlib.Core.Logic.{_≢_, _⊎_, inl, inr}
 use mathlib.Core.Bool.{Bool, true, false, _&&_, not}
@@ -22,11 +22,11 @@ use Rattle.rules.specs.State.{Cipher, State}
 use Rattle.rules.specs.Refusals.{lowest, valueChecks, slotChecks, segmentWriteChecks, headerWriteChecks, editChecks, registerChecks, responseChecks, nameChecks, commitChecks, plainChecks, writeChecks}
 use Rattle.rules.specs.Command.{Command, read, write, advance, insert, powerUp, refusal, checks, inPlace, after}
 use Rattle.rules.specs.Run.{final}
-use Rattle.rules.specs.Demand3.{slot, valueAt, LockedCounter}
-use Rattle.rules.specs.Claims.{Applies, Holds}
+use Rattle.rules.specs.Demand3.{slot, valueAt, CounterSegment, LockedCounter}
+use Rattle.rules.specs.Claims.{Applies, Holds, MayWrite}
 use Rattle.rules.specs.Repeats.{ValuePlace, in-slot, in-header, RepeatTold, NeverBoth, CopyTold}
-use Rattle.rules.proofs.Tests.{true-false, some-none, same-some, and-true, leaves, given-later, given-applies, has, not-there}
-use Rattle.rules.proofs.Values.{value-next, value-repeated, value-other, value-told, value-never-both}
+use Rattle.rules.proofs.Tests.{true-false, some-none, same-some, and-true, gives, leaves, given-later, given-applies, has, not-there}
+use Rattle.rules.proofs.Values.{value-next, value-repeated, value-other, value-unshaped, value-told, value-never-both, slot-cases}
 use Rattle.rules.proofs.Places.{place-holds, placed, header-holds, segment-holds, controlled}
 use Rattle.rules.proofs.Grants.{in-place, refused-reply, done-granted, judged-there}
 use Rattle.rules.proofs.Rights.{may-write, write-held}
@@ -53,39 +53,79 @@ not-default e = let z : _≡_ {A = ℕ} 0 1 = cc in absurd (omega arith)
 writable : (u : List ℕ) → wellFormed u ≡ true → unitOf u .model ≡ Counter → unitOf u .wr ≡ true
 writable u e f = let x = modelled-fits u Counter e f not-default in counter-fits _ _ _ _ (x .1) (x .2)
 
--- ---- a write of eight bytes where a value stands is judged by the value alone
+-- ---- a write with the rights is judged by its shape and value alone
 
-slot-shaped : (m : Model) (o : ℕ) (old bs : List ℕ) → m ≡ Counter → o % 8 ≡ 0 → length bs ≡ 8
-    → slotChecks m o old bs ≡ valueChecks true old bs
+counter-checks : (m : Model) (o : ℕ) (old bs : List ℕ) → m ≡ Counter
+    → slotChecks m o old bs ≡ valueChecks (eqb (o % 8) 0 && eqb (length bs) 8) old bs
 unfolding slotChecks
-slot-shaped m o old bs e f g = rw (e, eq-eqb (o % 8) 0 f, eq-eqb (length bs) 8 g)
+counter-checks m o old bs e = rw e
 
-header-shaped : (a n : ℕ) → a ≡ 4 → n ≡ 8 → (eqb a 4 && eqb n 8) ≡ true
-header-shaped a n e f = rw (eq-eqb a 4 e, eq-eqb n 8 f)
+both : (x m y n : ℕ) → x ≡ m → y ≡ n → (eqb x m && eqb y n) ≡ true
+both x m y n e f = rw (eq-eqb x m e, eq-eqb y n f)
+
+-- and back
+not-both : (x m y n : ℕ) → (x ≡ m → y ≡ n → ⊥) → (eqb x m && eqb y n) ≡ false
+not-both x m y n other = by (eqb x m && eqb y n) refl
+  where
+    by : (b : Bool) → (eqb x m && eqb y n) ≡ b → b ≡ false
+    by true e = let z = and-true (eqb x m) (eqb y n) e in absurd (other (eqb-true x m (z .0)) (eqb-true y n (z .1)))
+    by false e = refl
 
 module _ (E : Cipher) (s : State) (a : ℕ) (bs : List ℕ) where
   abbrev t : List ℕ
   t = s .tag
 
+  abbrev offset : ℕ → ℕ
+  offset k = a - segmentAt (segments t) k
+
   -- what stands where it is to be written, by its length and as eight bytes
   eight-there : length bs ≡ 8 → part a (length bs) t ≡ part a 8 t
   eight-there n = ap (λ m. part a m t) n
 
+  slot-judged : (k : ℕ) → sound t ≡ true → CounterSegment t k → MayWrite (s .session) (unitBytes t k)
+      → Holds t (Segment k) a (length bs) → 1 ≤ length bs
+      → refusal E s (write a bs)
+      ≡ lowest (valueChecks (eqb (offset k % 8) 0 && eqb (length bs) 8) (part a (length bs) t) bs)
+  unfolding writeChecks segmentWriteChecks
+  slot-judged k w cs m h l =
+      let f = placed t (Segment k) a (length bs) w h in
+      let x = may-write (s .session) (unitBytes t k) m in
+      judged-there E s (Segment k) a bs w l (omega arith) h
+      ∙ leaves _ _ _ (ap not (cs .formed)) ∙ leaves _ _ _ (ap not (writable (unitBytes t k) (cs .formed) (cs .counts)))
+      ∙ leaves _ _ _ (x .0) ∙ leaves _ _ _ (x .1)
+      ∙ ap lowest (counter-checks _ (offset k) (part a (length bs) t) bs (cs .counts))
+
   judged-by-value : sound t ≡ true → ValuePlace s a → length bs ≡ 8
       → refusal E s (write a bs) ≡ lowest (valueChecks true (part a 8 t) bs)
-  unfolding writeChecks segmentWriteChecks headerWriteChecks
+  unfolding writeChecks headerWriteChecks
   judged-by-value w (in-slot k j cs l m e) n =
-      judged-there E s (Segment k) a bs w (omega arith) (omega arith)
-      (segment-holds t k a (length bs) (Segment k) (controlled (cs .there)) (omega arith) (omega arith))
-      ∙ leaves _ _ _ (ap not (cs .formed)) ∙ leaves _ _ _ (ap not (writable (unitBytes t k) (cs .formed) (cs .counts)))
-      ∙ leaves _ _ _ (may-write (s .session) (unitBytes t k) m .0)
-      ∙ leaves _ _ _ (may-write (s .session) (unitBytes t k) m .1)
-      ∙ ap lowest (slot-shaped _ (a - segmentAt (segments t) k) (part a (length bs) t) bs (cs .counts) (omega arith) n)
+      slot-judged k w cs m
+      (segment-holds t k a (length bs) (Segment k) (controlled (cs .there)) (omega arith) (omega arith)) (omega arith)
+      ∙ ap (λ b. lowest (valueChecks b (part a (length bs) t) bs)) (both (offset k % 8) 0 (length bs) 8 (omega arith) n)
       ∙ ap (λ old. lowest (valueChecks true old bs)) (eight-there n)
   judged-by-value w (in-header e) n =
       judged-there E s Header a bs w (omega arith) (omega arith) (header-holds t a (length bs) (omega arith))
-      ∙ leaves _ _ _ (ap not (header-shaped a (length bs) e n))
+      ∙ leaves _ _ _ (ap not (both a 4 (length bs) 8 e n))
       ∙ ap (λ x. lowest (valueChecks true (part x 8 t) bs)) (sym e)
+
+  shape-refused : (k : ℕ) → sound t ≡ true → CounterSegment t k → MayWrite (s .session) (unitBytes t k)
+      → placeOf t a (length bs) ≡ some (Segment k) → 1 ≤ length bs → (ValuePlace s a → length bs ≢ 8)
+      → refusal E s (write a bs) ≡ some 12
+  shape-refused k w cs m p l other =
+      let h = place-holds t (Segment k) a (length bs) p in
+      let f = placed t (Segment k) a (length bs) w h in
+      slot-judged k w cs m h l
+      ∙ value-unshaped _ _ bs
+      (not-both (offset k % 8) 0 (length bs) 8
+      (λ e n. other (in-slot k (offset k / 8) cs (omega arith) m (omega arith)) n))
+
+  header-refused : sound t ≡ true → placeOf t a (length bs) ≡ some Header → 1 ≤ length bs → (a ≡ 4 → length bs ≢ 8)
+      → refusal E s (write a bs) ≡ some 4
+  unfolding writeChecks headerWriteChecks
+  header-refused w p l other =
+      let h = place-holds t Header a (length bs) p in
+      let f = placed t Header a (length bs) w h in
+      judged-there E s Header a bs w l (omega arith) h ∙ gives _ _ _ (ap not (not-both a 4 (length bs) 8 other))
 
   -- ---- an 18 is given nowhere else
 
@@ -176,6 +216,8 @@ module _ (E : Cipher) (s : State) (a : ℕ) (bs : List ℕ) where
         next-granted = λ p n e. judged-by-value w p n ∙ value-next (part a 8 t) bs e;
         repeat-told = λ p n e. judged-by-value w p n ∙ value-repeated (part a 8 t) bs e;
         rest-refused = λ p n e f. judged-by-value w p n ∙ value-other (part a 8 t) bs e f;
+        shape-refused = λ k cs m p l other. shape-refused k w cs m p l other;
+        header-refused = header-refused w;
         told-only = told-only;
       }
 
@@ -183,12 +225,8 @@ module _ (E : Cipher) (s : State) (a : ℕ) (bs : List ℕ) where
 
 slot-never-both : (m : Model) (o : ℕ) (old bs : List ℕ) → Applies 12 (slotChecks m o old bs)
     → Applies 18 (slotChecks m o old bs) → ⊥
-unfolding slotChecks
-slot-never-both Default o old bs x y = x
-slot-never-both WriteOnce o old bs x y = x
-slot-never-both Counter o old bs x y = value-never-both (eqb (o % 8) 0 && eqb (length bs) 8) old bs x y
-slot-never-both (Receiver g) o old bs x y = x
-slot-never-both (SharedKey g) o old bs x y = x
+slot-never-both m o old bs =
+    slot-cases (λ cs. Applies 12 cs → Applies 18 cs → ⊥) o old bs (λ x y. x) (value-never-both _ old bs) m
 
 module _ (E : Cipher) (s : State) (a : ℕ) (bs : List ℕ) where
   header-never-both : Applies 12 (writeChecks E s Header a bs) → Applies 18 (writeChecks E s Header a bs) → ⊥

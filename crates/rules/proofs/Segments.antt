@@ -10,7 +10,6 @@ use native.Mathlib.Omega.{arith}
 use lib.ListN.{length}
 use borrow.Author.Tests.{eq-eqb, ne-eqb}
 use Rattle.rules.specs.declared.Model.{Model}
-use Rattle.rules.specs.declared.Model.the-variants.{Default, WriteOnce, Counter, Receiver, SharedKey}
 use Rattle.rules.specs.declared.Place.{Place}
 use Rattle.rules.specs.Map.{segments, publics, sound, placeOf}
 use Rattle.rules.specs.Units.{unitBytes, unitOf}
@@ -20,6 +19,7 @@ use Rattle.rules.specs.Effects.{Store, refusalStores, writeSession, appl
 use Rattle.rules.specs.Command.{Command, read, write, refusal, checks, inPlace, stores, after, afterBy, newSession, sessionIn}
 use Rattle.rules.specs.Claims.{Applies, Holds}
 use Rattle.rules.proofs.Tests.{has, never-given, same-some}
+use Rattle.rules.proofs.Values.{slot-cases}
 use Rattle.rules.proofs.StoreLaws.{Each}
 use Rattle.rules.proofs.MapLaws.{sound-facts}
 use Rattle.rules.proofs.Places.{Numbered, controlled, open-to-all, place-found, placed}
@@ -35,12 +35,8 @@ pub data Ranged (a n : ℕ) : Command → Type 0 where
 -- ---- 11 is none of its refusals
 
 slot-lacks-11 : (m : Model) (o : ℕ) (old bs : List ℕ) → has 11 (slotChecks m o old bs) ≡ false
-unfolding slotChecks valueChecks
-slot-lacks-11 Default o old bs = refl
-slot-lacks-11 WriteOnce o old bs = refl
-slot-lacks-11 Counter o old bs = refl
-slot-lacks-11 (Receiver g) o old bs = refl
-slot-lacks-11 (SharedKey g) o old bs = refl
+unfolding valueChecks
+slot-lacks-11 m o old bs = slot-cases (λ cs. has 11 cs ≡ false) o old bs refl refl m
 
 write-lacks-11 : (E : Cipher) (s : State) (A P k a : ℕ) (bs : List ℕ) (p : Place) → Numbered A P k p
     → has 11 (writeChecks E s p a bs) ≡ false

@@ -1,16 +1,30 @@
 -- A value written over a stored one: the next is granted, the same is 18, and the rest is 12.
-use Prim.Native.Nat.{ℕ, _+_}
+use Prim.Native.Nat.{ℕ, _+_, _%_}
 use mathlib.Core.Path.{_≡_, refl, sym, ap, _∙_}
 use mathlib.Core.Logic.{_≢_, inl, inr}
 use mathlib.Core.Bool.{Bool, true, false, _&&_, _||_, not}
 use mathlib.Core.List.{List}
 use mathlib.Core.Option.{none, some}
 use native.Mathlib.Omega.{arith}
+use lib.ListN.{length}
+use lib.Dec.{eqb}
 use borrow.Author.Tests.{eqb-true, eq-eqb, ne-eqb}
+use Rattle.rules.specs.declared.Model.{Model}
+use Rattle.rules.specs.declared.Model.the-variants.{Default, WriteOnce, Counter, Receiver, SharedKey}
 use Rattle.rules.specs.Bytes.{number}
-use Rattle.rules.specs.Refusals.{lowest, isNext, isRepeat, valueChecks}
+use Rattle.rules.specs.Refusals.{Checks, granted, lowest, isNext, isRepeat, valueChecks, slotChecks}
 use Rattle.rules.specs.Claims.{Applies}
 use Rattle.rules.proofs.Tests.{true-false, and-true, or-first, or-second, passes, clears, none-applies, gives, leaves, given-later, given-last}
+
+-- a segment's checks of a value: those of model 2, or none
+pub slot-cases : (P : Checks → Type 0) (o : ℕ) (old bs : List ℕ) → P granted
+    → P (valueChecks (eqb (o % 8) 0 && eqb (length bs) 8) old bs) → (m : Model) → P (slotChecks m o old bs)
+unfolding slotChecks
+slot-cases P o old bs g v Default = g
+slot-cases P o old bs g v WriteOnce = g
+slot-cases P o old bs g v Counter = v
+slot-cases P o old bs g v (Receiver h) = g
+slot-cases P o old bs g v (SharedKey h) = g
 
 is-repeat : (old bs : List ℕ) → number bs ≡ number old → isRepeat old bs ≡ true
 unfolding isRepeat
