@@ -38,7 +38,7 @@ use Rattle.rules.proofs.Refused.{applies-among}
 
 -- ---- the rights to write a counter segment
 
--- model 2 is well formed with RD and WR alone
+-- model 2 is well formed only with RD and WR set
 counter-fits : (m g : ℕ) (rd wr : Bool) → modelFits m g rd wr ≡ true → modelOf m g ≡ Counter → wr ≡ true
 unfolding modelFits modelOf
 counter-fits zero g rd wr e f = let z : _≡_ {A = ℕ} 0 1 = cc in absurd (omega arith)
