@@ -11,7 +11,7 @@ pub use session::Session;
 /// Granted, or the lowest refusal that applies.
 pub type Answer = Result<(), Refusal>;
 
-/// Reads `count` bytes into the front of the output. A refused read leaves the output as it was.
+/// Reads `count` bytes into the front of the output. A refused read ([`Refusal::OF_READ`]) leaves the output as it was.
 pub fn read(tag: &[u8], session: &Session, address: usize, count: usize, output: &mut [u8]) -> Answer {
     // SAFETY: each pointer and length is one slice's, lent for the call; the two that are lent to be read may overlap
     // nothing that is lent to be written, since that is borrowed mutably.
@@ -28,7 +28,7 @@ pub fn read(tag: &[u8], session: &Session, address: usize, count: usize, output:
     })
 }
 
-/// Writes the data at the address. A register write changes the session.
+/// Writes the data at the address, unless it is refused ([`Refusal::OF_WRITE`]). A register write changes the session.
 pub fn write(tag: &mut [u8], session: &mut Session, address: usize, data: &[u8]) -> Answer {
     // SAFETY: as above.
     Refusal::answer(unsafe {
@@ -43,14 +43,14 @@ pub fn write(tag: &mut [u8], session: &mut Session, address: usize, data: &[u8])
     })
 }
 
-/// Takes a segment of model 3 to its next stage.
+/// Takes a segment of model 3 to its next stage, unless it is refused ([`Refusal::OF_ADVANCE`]).
 pub fn advance(tag: &mut [u8], session: &Session, segment: usize) -> Answer {
     // SAFETY: as above.
     Refusal::answer(unsafe { c::dringoleth_advance(tag.as_mut_ptr(), tag.len(), session.as_bytes(), segment) })
 }
 
 /// Inserts the host with this id, whose stream is in the segment: it shares a key with each host before it, and its
-/// segment can then be read. include/dringoleth.h says what refuses it.
+/// segment can then be read. It may be refused ([`Refusal::OF_INSERT`]); include/dringoleth.h says when.
 pub fn insert(tag: &mut [u8], session: &Session, segment: usize, id: &[u8; 16]) -> Answer {
     // SAFETY: as above.
     Refusal::answer(unsafe { c::dringoleth_insert(tag.as_mut_ptr(), tag.len(), session.as_bytes(), segment, id) })

@@ -66,6 +66,51 @@ const REFUSALS: [(Refusal, &str); 16] = [
 ];
 
 impl Refusal {
+    /// What a read can be refused, and so for the other commands.
+    pub const OF_READ: &'static [Refusal] = &[
+        Refusal::Unsound,
+        Refusal::Count,
+        Refusal::Outside,
+        Refusal::NeverTaken,
+        Refusal::Malformed,
+        Refusal::Forbidden,
+        Refusal::OtherPin,
+        Refusal::OtherName,
+    ];
+    pub const OF_WRITE: &'static [Refusal] = &[
+        Refusal::Unsound,
+        Refusal::Count,
+        Refusal::Outside,
+        Refusal::NeverTaken,
+        Refusal::Malformed,
+        Refusal::Forbidden,
+        Refusal::OtherPin,
+        Refusal::OtherName,
+        Refusal::BadRegister,
+        Refusal::FlagUsed,
+        Refusal::WrongResponse,
+        Refusal::NotNext,
+        Refusal::BadEdit,
+        Refusal::Repeated,
+    ];
+    pub const OF_ADVANCE: &'static [Refusal] = &[
+        Refusal::Unsound,
+        Refusal::Outside,
+        Refusal::Malformed,
+        Refusal::OtherPin,
+        Refusal::OtherName,
+        Refusal::OtherModel,
+    ];
+    pub const OF_INSERT: &'static [Refusal] = &[
+        Refusal::Unsound,
+        Refusal::Outside,
+        Refusal::Malformed,
+        Refusal::OtherPin,
+        Refusal::OtherName,
+        Refusal::OtherModel,
+        Refusal::BadInsertion,
+    ];
+
     pub fn number(self) -> u8 {
         self as u8
     }

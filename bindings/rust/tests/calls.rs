@@ -146,3 +146,28 @@ fn a_refusal_says_what_is_wrong() {
         "refusal 19: the id is zeros or listed, the segment is listed, or the list of hosts is full or damaged"
     );
 }
+
+/// The numbers that the header says a function returns.
+fn returned(function: &str) -> Vec<u8> {
+    let header = include_str!("../../../include/dringoleth.h");
+    let (before, _) = header
+        .split_once(&format!("uint8_t dringoleth_{function}("))
+        .expect("a declaration");
+    let (_, words) = before.rsplit_once("Returns ").expect("what it returns");
+    let (list, _) = words.split_once('.').expect("the end of the list");
+    list.split([',', ' ']).filter_map(|word| word.parse().ok()).collect()
+}
+
+#[test]
+fn the_header_has_the_refusals_of_each_command() {
+    let lists = [
+        ("read", Refusal::OF_READ),
+        ("write", Refusal::OF_WRITE),
+        ("advance", Refusal::OF_ADVANCE),
+        ("insert", Refusal::OF_INSERT),
+    ];
+    for (function, refusals) in lists {
+        let due: Vec<u8> = [0].into_iter().chain(refusals.iter().map(|r| r.number())).collect();
+        assert_eq!(returned(function), due, "{function}");
+    }
+}

@@ -14,11 +14,10 @@ use Rattle.rules.specs.Command.{refusal, inPlace, checks, stores, stores
 use Rattle.rules.specs.Run.{final, replies}
 use Rattle.rules.specs.Log.{kinds, kindIn, bodyLength, commandOf, wholeOf, first, parsed, parsedBy, commandsOf, readCode, encoded, encodedAll, roomFor, stopped, onward, carriedOut, runLog}
 use Rattle.rules.specs.Examples.{Hold, starred, insertions, hostTag, hostId, stages, errors, NotEmpty, RepeatsChange, owed, tagWith, counterTag, eight, begin, naming, got, xorWrite, nameWrite, xorState, nameState}
-use Rattle.rules.specs.Readings.{readings, zeros16, counterOrder, modelThreeEdits, modelOneEdits, advanceOrder, coveredName, indexRules, registerRules, pinRules, whichKey, countFirst, shortTag, defaultModel, logRoom, repeatedValues}
-use Rattle.rules.specs.Readings.{listing, keyStages, insertOrder, whoseId, hiddenSlots, listedEdits, stageOneEdits, staleRows, threeHosts, badRows, hostReadings}
+use Rattle.rules.specs.Readings.{readings, logRoom, listing, staleRows}
 
 -- all of them under one list of what is opened
-computed : Hold starred × Hold stages × Hold errors × Hold readings × NotEmpty × RepeatsChange
+computed : Hold starred × Hold stages × Hold errors × Hold insertions × Hold readings × NotEmpty × RepeatsChange
 unfolding part put numberFrom same zeros xor all segments publics counter flag most managements segmentsAt soundness
     sound registerNo rows liesIn find placeOf unitBytes bit stageOf keyStageOf modelOf unitOf nameOf modelFits formedness
     wellFormed readers hostAt hostsFrom mostHosts hosts any repeats slotId slotKey slotMask misses readable isSharedKey
@@ -31,9 +30,9 @@ unfolding part put numberFrom same zeros xor all segments publics counter flag m
     refusalStores inPlace checks refusal storesIn sessionIn stores newSession grant replyBy reply afterBy after
     final replies kinds kindIn bodyLength commandOf wholeOf first parsedBy parsed commandsOf readCode encoded
     encodedAll roomFor stopped onward carriedOut runLog tagWith counterTag eight begin naming got owed starred stages
-    errors xorWrite nameWrite xorState nameState zeros16 counterOrder modelThreeEdits modelOneEdits advanceOrder
-    coveredName indexRules registerRules pinRules whichKey countFirst shortTag defaultModel logRoom repeatedValues readings
+    errors xorWrite nameWrite xorState nameState bytesOf hostTag hostId insertions logRoom listing staleRows readings
 computed = (
+  refl,
   refl,
   refl,
   refl,
@@ -50,36 +49,6 @@ computed = (
   },
 )
 
--- what an insertion and the reads behind it open
-inserted-computed : Hold insertions
-unfolding part put numberFrom same zeros xor all segments publics flag most managements segmentsAt soundness sound
-    registerNo rows liesIn find placeOf unitBytes bit stageOf keyStageOf modelOf unitOf nameOf modelFits formedness
-    wellFormed readers hostAt hostsFrom mostHosts hosts any repeats slotId slotKey slotMask misses readable isSharedKey
-    hides isFilling isInserted rowFits listRefuses insertChecks joinedSlot pairStores joinStores inserted rowStore
-    insertStores poweredUp lowest segmentReadChecks slotChecks segmentWriteChecks readChecks writeChecks apply stored
-    readOnly writeMove writeStores writeSession refusalStores inPlace checks refusal storesIn sessionIn stores newSession
-    grant replyBy reply afterBy after final replies begin got owed bytesOf insertions hostTag hostId
-inserted-computed = refl
-
--- and the readings
-host-readings-computed : Hold hostReadings
-unfolding part put numberFrom same zeros xor all segments publics flag most managements segmentsAt soundness sound
-    registerNo rows liesIn find placeOf unitBytes bit stageOf keyStageOf modelOf unitOf nameOf modelFits formedness
-    wellFormed readers hostAt hostsFrom mostHosts hosts any repeats slotId slotKey slotMask misses readable isSharedKey
-    hides isFilling isInserted rowFits listRefuses insertChecks joinedSlot pairStores joinStores inserted rowStore
-    insertStores poweredUp lowest segmentReadChecks slotChecks segmentWriteChecks unitReadChecks isReceiver pastStageZero
-    sameBool keepsModel editAllowed editChecks readChecks writeChecks apply stored readOnly writeMove writeStores
-    writeSession refusalStores inPlace checks refusal storesIn sessionIn stores newSession grant replyBy reply afterBy after
-    final replies begin got owed bytesOf tagWith hostTag hostId listing keyStages insertOrder whoseId hiddenSlots listedEdits
-    stageOneEdits staleRows threeHosts badRows hostReadings plainChecks registerChecks registerStores registerSession withId
-host-readings-computed = refl
-
-pub host-readings-hold : Hold hostReadings
-host-readings-hold = host-readings-computed
-
-pub insertions-hold : Hold insertions
-insertions-hold = inserted-computed
-
 pub starred-hold : Hold starred
 starred-hold = computed .0
 
@@ -89,11 +58,14 @@ stages-hold = computed .1
 pub errors-shown : Hold errors
 errors-shown = computed .2
 
+pub insertions-hold : Hold insertions
+insertions-hold = computed .3
+
 pub readings-hold : Hold readings
-readings-hold = computed .3
+readings-hold = computed .4
 
 pub not-empty : NotEmpty
-not-empty = computed .4
+not-empty = computed .5
 
 pub repeats-change : RepeatsChange
-repeats-change = computed .5
+repeats-change = computed .6

@@ -1,5 +1,5 @@
 -- A host that knows the PIN reads after four commands: PA, counter, READ, read. What each of them leaves.
-use Prim.Native.Nat.{ℕ, _+_, _≤_, _<_}
+use Prim.Native.Nat.{ℕ, _+_, _≤_}
 use mathlib.Core.Path.{_≡_, refl, sym, ap, _∙_}
 use mathlib.Core.Bool.{true, false, not}
 use mathlib.Core.List.{List, [], _∷_, _++_}
@@ -13,7 +13,7 @@ use Rattle.rules.specs.declared.Register.the-variants.{Pa, Read}
 use Rattle.rules.specs.declared.Place.{Place}
 use Rattle.rules.specs.declared.Place.the-variants.{RegisterOf, Header}
 use Rattle.rules.specs.Bytes.{put, number, same, part, bytesOf}
-use Rattle.rules.specs.Map.{sound, placeOf, segments, registerAt, registerNo, counter, flag, segmentAt, unitAt, pinAt}
+use Rattle.rules.specs.Map.{sound, placeOf, segments, registerAt, registerNo, counter, flag, unitAt, pinAt}
 use Rattle.rules.specs.Units.{wellFormed, unitBytes, unitOf, formedness}
 use Rattle.rules.specs.Hosts.{Host}
 use Rattle.rules.specs.State.{Cipher, State, withPa, pin, pinIndex, response, withRead, encipheredCounter}
@@ -22,7 +22,7 @@ use Rattle.rules.specs.Effects.{apply, writeStores, writeSession, regist
 use Rattle.rules.specs.Command.{write, refusal, done, reply, after, replyBy, afterBy, grant, stores, storesIn, newSession, sessionIn, read, gives}
 use Rattle.rules.specs.Run.{replies}
 use Rattle.rules.specs.Claims.{Holds}
-use Rattle.rules.specs.FourCommands.{HostReads, fourCommands}
+use Rattle.rules.specs.FourCommands.{HostMayRead, HostReads, fourCommands}
 use Rattle.rules.proofs.Tests.{true-false, clears, none-applies, all-true}
 use Rattle.rules.proofs.Values.{value-next}
 use Rattle.rules.proofs.BytesLaws.{same-refl, byte-put, length-put, part-put, part-put-same, length-bytesOf, number-bytesOf, part-front}
@@ -119,26 +119,24 @@ away next t a n l h =
     let e = part-put a n 12 (0 ∷ []) (put 4 next t) (omega arith) ∙ part-put a n 4 next t (omega arith) in
     (e, part-put a n 12 (1 ∷ []) (countedUp next t) (omega arith) ∙ e)
 
-fourth : (E : Cipher) (t next : List ℕ) (v : Session) (k a n room : ℕ) → sound t ≡ true → length next ≡ 8
-    → k < segments t
-    → wellFormed (unitBytes t k) ≡ true → unitOf (unitBytes t k) .rd ≡ true → unitOf (unitBytes t k) .pn ≡ false
-    → isSharedKey (unitOf (unitBytes t k) .model) ≡ false
-    → v .read ≡ unitOf (unitBytes t k) .read
-    → 1 ≤ n → n ≤ room → segmentAt (segments t) k ≤ a → a + n ≤ segmentAt (segments t) k + 4096
+fourth : (E : Cipher) (t next : List ℕ) (v : Session) (k a n room : ℕ) (rest : List ℕ) → HostMayRead t k a n room rest
+    → length next ≡ 8 → v .read ≡ unitOf (unitBytes t k) .read
     → reply E (record { tag = put 12 (1 ∷ []) (countedUp next t); session = v }) (read a n room) ≡ gives (part a n t)
 unfolding unitBytes
-fourth E t next v k a n room w ln h f r p m i l o b c =
-    let g = sound-long t w .0 in
+fourth E t next v k a n room rest h ln i =
+    let g = sound-long t (h .tag-sound) .0 in
     let t3 = put 12 (1 ∷ []) (countedUp next t) in
     let segs : segments t3 ≡ segments t =
     segments-put 12 (1 ∷ []) (countedUp next t) (omega arith) ∙ segments-put 12 (0 ∷ []) (put 4 next t) (omega arith)
     ∙ segments-put 4 next t (omega arith) in
     let u : unitBytes t3 k ≡ unitBytes t k = away next t (unitAt k) 32 ln (omega arith) .1 in
     segment-read E (record { tag = t3; session = v }) k a n room
-    (sound-flag 1 (countedUp next t) (omega arith) (counter-facts next t w ln .0)) (rw segs h) l o (rw segs b) (rw segs c)
-    (rights (record { tag = t3; session = v }) k a n (rw u f) (rw u r) (not-hidden _ k _ n _ (rw u m))
-    (record { its-index = λ q. rw u i; its-name = λ q. true-false (sym q ∙ rw u p) }))
-    ∙ ap gives (away next t a n ln (omega arith) .1)
+    (sound-flag 1 (countedUp next t) (omega arith) (counter-facts next t (h .tag-sound) ln .0)) (rw segs (h .there))
+    (h .some-bytes) (h .fits) (rw segs (h .starts-inside)) (rw segs (h .ends-inside))
+    (rights (record { tag = t3; session = v }) k a n (rw u (h .formed)) (rw u (h .rd-set))
+    (not-hidden _ k _ n _ (rw u (h .other-model)))
+    (record { its-index = λ q. rw u i; its-name = λ q. true-false (sym q ∙ rw u (h .pn-clear)) }))
+    ∙ ap gives (away next t a n ln (omega (arith, h .starts-inside)) .1)
 
 -- ---- the four commands
 
@@ -148,17 +146,18 @@ index-small u e = leb-true _ _ (all-true _ _ (all-true _ _ (all-true _ _ e .1) .
 
 pub host-reads : HostReads
 unfolding replies fourCommands
-host-reads E long s k a n room rest w cb h f r p m l o b c lr =
+host-reads E long s k a n room rest h =
     let t = s .tag in
+    let w = h .tag-sound in
     let i = unitOf (unitBytes t k) .read in
-    let small : i ≤ 255 = index-small (unitBytes t k) f in
+    let small : i ≤ 255 = index-small (unitBytes t k) (h .formed) in
     let pa = bytesOf 2 i ++ rest in
     let next = bytesOf 8 (counter t + 1) in
     let ln : length next ≡ 8 = length-bytesOf 8 (counter t + 1) in
-    let lp : length pa ≡ 16 = omega (arith, length-append (bytesOf 2 i) rest, length-bytesOf 2 i, lr) in
+    let lp : length pa ≡ 16 = omega (arith, length-append (bytesOf 2 i) rest, length-bytesOf 2 i, h .fourteen) in
     let c1 = pa-written E s pa w lp in
     let s1 : State = record { tag = t; session = withPa pa (s .session) } in
-    let c2 = counter-written E s1 next w ln (number-bytesOf 8 (counter t + 1) (omega arith)) in
+    let c2 = counter-written E s1 next w ln (number-bytesOf 8 (counter t + 1) (omega (arith, h .counter-below))) in
     let x = counter-facts next t w ln in
     let s2 : State = record { tag = countedUp next t; session = withPa pa (s .session) } in
     let rs = encipheredCounter E (pin t i) next in
@@ -166,7 +165,7 @@ host-reads E long s k a n room rest w cb h f r p m l o b c lr =
     (answered i next ln (x .2)) in
     rw (c1 .0, c1 .1, c2 .0, c2 .1, c3 .0, c3 .1)
     (ap (λ z. done ∷ done ∷ done ∷ z ∷ [])
-    (fourth E t next (withRead i (withPa pa (s .session))) k a n room w ln h f r p m (unfold withRead in refl) l o b c))
+    (fourth E t next (withRead i (withPa pa (s .session))) k a n room rest h ln (unfold withRead in refl)))
   where
     sixteen : (key next : List ℕ) → length next ≡ 8 → length (encipheredCounter E key next) ≡ 16
     sixteen key next e =

@@ -26,6 +26,7 @@ pub mod LogLaws
 pub mod LogDemand3
 pub mod FourCommands
 pub mod Examples
+pub mod Borders
 pub mod Moves
 pub mod Calls
 pub mod RunLaws

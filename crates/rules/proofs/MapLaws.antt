@@ -1,16 +1,17 @@
 -- Laws of the address rule, of the header and of soundness. No other proof opens the address rule.
-use Prim.Native.Nat.{ℕ, _+_, _%_, _≤_}
-use mathlib.Core.Path.{_≡_, refl, ap}
+use Prim.Native.Nat.{ℕ, zero, suc, _+_, _%_, _≤_}
+use mathlib.Core.Path.{_≡_, refl, ap, ap₂, _∙_}
 use mathlib.Core.Bool.{true}
 use mathlib.Core.List.{List, [], _∷_}
 use native.Mathlib.Omega.{arith}
-use lib.ListN.{length}
+use lib.ListN.{length, replicate}
+use lib.Dec.{eqb}
 use borrow.Author.Tests.{leb-true, eqb-true, eq-eqb, le-leb}
 use Rattle.rules.specs.Bytes.{zeros, part, put, number, Apart}
 use Rattle.rules.specs.Map.{most, unitAt, segmentsAt, segments, managements, segmentAt, publics, flag, pinAt, sound, soundness}
-use Rattle.rules.specs.Claims.{Sizes}
-use Rattle.rules.proofs.Tests.{all-true, all-and, all-none}
-use Rattle.rules.proofs.BytesLaws.{part-put, byte-put-out, byte-put, length-put}
+use Rattle.rules.specs.Claims.{Sizes, SoundTag, SoundIs}
+use Rattle.rules.proofs.Tests.{and-true, all-true, all-and, all-none}
+use Rattle.rules.proofs.BytesLaws.{length-part, part-put, byte-put-out, byte-put, length-put}
 
 -- where the segments begin: behind the units, with a spare place of at most 4,096 bytes between, and at a multiple of
 -- 4,096; 128 units end just there
@@ -32,7 +33,7 @@ units-fill = refl
 
 -- ---- the facts of soundness
 
-pub record SoundTag (t : List ℕ) : Type 0 where
+pub record SoundFacts (t : List ℕ) : Type 0 where
   pub long : length t ≡ segmentAt (segments t) (segments t + publics t)
   pub least : 1 ≤ segments t
   pub most-segments : segments t ≤ most
@@ -41,7 +42,7 @@ pub record SoundTag (t : List ℕ) : Type 0 where
   pub padding : zeros (part 13 3 t) ≡ true
   pub pin-zero : zeros (part (pinAt 0) 16 t) ≡ true
 
-pub sound-facts : (t : List ℕ) → sound t ≡ true → SoundTag t
+pub sound-facts : (t : List ℕ) → sound t ≡ true → SoundFacts t
 unfolding sound soundness
 sound-facts t e =
     let s0 = all-true _ _ e in
@@ -61,7 +62,7 @@ sound-facts t e =
       pin-zero = s6 .0;
     }
 
-pub sound-from : (t : List ℕ) → SoundTag t → sound t ≡ true
+pub sound-from : (t : List ℕ) → SoundFacts t → sound t ≡ true
 unfolding sound soundness
 sound-from t f =
     all-and _ _ (eq-eqb _ _ (f .long)) (all-and _ _ (le-leb _ _ (f .least))
@@ -119,6 +120,56 @@ sound-flag v t l e =
       padding = rw (part-put 13 3 12 (v ∷ []) t (omega arith)) (f .padding);
       pin-zero = rw (part-put (pinAt 0) 16 12 (v ∷ []) t (omega arith)) (f .pin-zero);
     })
+
+-- ---- soundness in document 01's words
+
+zeros-only : (n : ℕ) (bs : List ℕ) → length bs ≡ n → zeros bs ≡ true → bs ≡ replicate n 0
+unfolding zeros
+zeros-only zero [] l e = refl
+zeros-only (suc n) [] l e = absurd (omega arith)
+zeros-only zero (b ∷ bs) l e = absurd (omega arith)
+zeros-only (suc n) (b ∷ bs) l e =
+    let x = and-true (eqb b 0) (zeros bs) e in
+    ap₂ {C = List ℕ} (λ z zs. z ∷ zs) (eqb-true b 0 (x .0)) (zeros-only n bs (omega arith) (x .1))
+
+zeros-replicate : (n : ℕ) → zeros (replicate n 0) ≡ true
+unfolding zeros
+zeros-replicate zero = refl
+zeros-replicate (suc n) = zeros-replicate n
+
+pub sound-is : (t : List ℕ) → SoundIs t
+unfolding most managements segmentsAt
+sound-is t = record { all-asked = asked; no-more-asked = enough }
+  where
+    asked : sound t ≡ true → SoundTag t
+    asked w =
+        let f = sound-facts t w in
+        let l = f .long in
+        let p = length-part 13 3 t in
+        let q = length-part 4096 16 t in
+        record {
+          its-length = omega arith;
+          least-segments = f .least;
+          most-segments = f .most-segments;
+          most-publics = f .most-publics;
+          flag-range = f .flagged;
+          three-zeros = zeros-only 3 _ (omega arith) (f .padding);
+          pin-zero = zeros-only 16 _ (omega arith) (f .pin-zero);
+        }
+
+    enough : SoundTag t → sound t ≡ true
+    enough f =
+        let l = f .its-length in
+        sound-from t
+        (record {
+          long = omega arith;
+          least = f .least-segments;
+          most-segments = f .most-segments;
+          most-publics = f .most-publics;
+          flagged = f .flag-range;
+          padding = ap zeros (f .three-zeros) ∙ zeros-replicate 3;
+          pin-zero = ap zeros (f .pin-zero) ∙ zeros-replicate 16;
+        })
 
 pub sizes : (t : List ℕ) → sound t ≡ true → Sizes t
 unfolding most managements segmentsAt

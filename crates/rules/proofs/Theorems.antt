@@ -1,6 +1,6 @@
 -- All that is proved of the rules.
 use Rattle.rules.specs.Theorems.{Theorems}
-use Rattle.rules.proofs.MapLaws.{sizes}
+use Rattle.rules.proofs.MapLaws.{sound-is, sizes}
 use Rattle.rules.proofs.Places.{the-map, no-spare}
 use Rattle.rules.proofs.Lawful.{sound-stays}
 use Rattle.rules.proofs.Locked.{locked-unit}
@@ -16,7 +16,8 @@ use Rattle.rules.proofs.CCalls.{called-is-call, run-called-is-run, noth
 use Rattle.rules.proofs.LogLaws.{log-is-its-commands}
 use Rattle.rules.proofs.LogDemand3.{log-demand-3}
 use Rattle.rules.proofs.FourCommands.{host-reads}
-use Rattle.rules.proofs.Examples.{starred-hold, insertions-hold, stages-hold, errors-shown, readings-hold, host-readings-hold, not-empty, repeats-change}
+use Rattle.rules.proofs.Examples.{starred-hold, insertions-hold, stages-hold, errors-shown, readings-hold, not-empty, repeats-change}
+use Rattle.rules.proofs.Borders.{borders, command-borders}
 use Rattle.rules.proofs.SharedKeys.{insertion-leaves, list-grows, unit-inserted}
 use Rattle.rules.proofs.SharedReads.{reads-listed}
 use Rattle.rules.proofs.KeptKeys.{keys-shared, keys-read}
@@ -47,6 +48,7 @@ theorems =
       copy-told = copy-told;
       the-map = the-map;
       no-spare = no-spare;
+      sound-is = sound-is;
       sizes = sizes;
       sound-stays = sound-stays;
       locked-unit = locked-unit;
@@ -66,7 +68,8 @@ theorems =
       errors-shown = errors-shown;
       insertions-hold = insertions-hold;
       readings-hold = readings-hold;
-      host-readings-hold = host-readings-hold;
+      borders = borders;
+      command-borders = command-borders;
       not-empty = not-empty;
       repeats-change = repeats-change;
     }

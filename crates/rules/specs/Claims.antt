@@ -58,6 +58,22 @@ pub record Sizes (t : List ℕ) : Type 0 where
   pub smallest : 20480 ≤ length t
   pub largest : length t ≤ 1064960
 
+-- "A tag is sound when its length is 4,096 x (4+A+P), A and P are in range, the flag is 0 or 1, the three zeros hold, and
+-- PIN 0 is all zeros."
+pub record SoundTag (t : List ℕ) : Type 0 where
+  pub its-length : length t ≡ 4096 * (4 + segments t + publics t)
+  pub least-segments : 1 ≤ segments t
+  pub most-segments : segments t ≤ 128
+  pub most-publics : publics t ≤ 128
+  pub flag-range : flag t ≤ 1
+  pub three-zeros : part 13 3 t ≡ replicate 3 0
+  pub pin-zero : part 4096 16 t ≡ replicate 16 0
+
+-- these are what soundness asks, and all that it asks
+pub record SoundIs (t : List ℕ) : Type 0 where
+  pub all-asked : sound t ≡ true → SoundTag t
+  pub no-more-asked : SoundTag t → sound t ≡ true
+
 -- ---- "The lowest refusal number that applies is given."
 
 -- the number m stands on the list beside a test that holds

@@ -16,7 +16,7 @@ use Rattle.rules.specs.Demand3.{LockedCounter}
 
 -- "One-segment tag, .. else zeros apart from A = 1", with the unit's first two bytes
 unfoldable pub tagWith : (control model : ℕ) → List ℕ
-tagWith control model = put 12288 (control ∷ model ∷ []) (put 0 (0 ∷ 1 ∷ []) (replicate 20480 0))
+tagWith control model = 0 ∷ 1 ∷ replicate 12286 0 ++ control ∷ model ∷ replicate 8190 0
 
 unfoldable pub counterTag : List ℕ
 counterTag = tagWith 0xA5 0x02

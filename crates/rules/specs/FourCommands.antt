@@ -23,17 +23,26 @@ fourCommands E t i rest a n room =
     ∷ read a n room
     ∷ []
 
--- "For a segment with RD set, PN clear and a well-formed unit, on a sound tag with counter below 2^64 - 1": of the
--- cipher it is assumed only that a block of 16 bytes gives 16. Document 02, L4: "the four-command case excepts model 4"
+-- "For a segment with RD set, PN clear and a well-formed unit, on a sound tag with counter below 2^64 - 1": segment k
+-- of the tag t, of which the n bytes at a are read. Document 02, L4: "the four-command case excepts model 4"
+pub record HostMayRead (t : List ℕ) (k a n room : ℕ) (rest : List ℕ) : Type 0 where
+  pub tag-sound : sound t ≡ true
+  pub counter-below : counter t < 2 ^ 64 - 1
+  pub there : k < segments t
+  pub formed : wellFormed (unitBytes t k) ≡ true
+  pub rd-set : unitOf (unitBytes t k) .rd ≡ true
+  pub pn-clear : unitOf (unitBytes t k) .pn ≡ false
+  pub other-model : isSharedKey (unitOf (unitBytes t k) .model) ≡ false
+  pub some-bytes : 1 ≤ n
+  pub fits : n ≤ room
+  pub starts-inside : segmentAt (segments t) k ≤ a
+  pub ends-inside : a + n ≤ segmentAt (segments t) k + 4096
+  pub fourteen : length rest ≡ 14
+
+-- of the cipher it is assumed only that a block of 16 bytes gives 16
 abbrev pub HostReads : Type 0
 HostReads =
     (E : Cipher) → ((key block : List ℕ) → length block ≡ 16 → length (E key block) ≡ 16)
-    → (s : State) (k a n room : ℕ) (rest : List ℕ)
-    → sound (s .tag) ≡ true → counter (s .tag) < 2 ^ 64 - 1
-    → k < segments (s .tag) → wellFormed (unitBytes (s .tag) k) ≡ true
-    → unitOf (unitBytes (s .tag) k) .rd ≡ true → unitOf (unitBytes (s .tag) k) .pn ≡ false
-    → isSharedKey (unitOf (unitBytes (s .tag) k) .model) ≡ false
-    → 1 ≤ n → n ≤ room → segmentAt (segments (s .tag)) k ≤ a → a + n ≤ segmentAt (segments (s .tag)) k + 4096
-    → length rest ≡ 14
+    → (s : State) (k a n room : ℕ) (rest : List ℕ) → HostMayRead (s .tag) k a n room rest
     → replies E s (fourCommands E (s .tag) (unitOf (unitBytes (s .tag) k) .read) rest a n room)
     ≡ done ∷ done ∷ done ∷ gives (part a n (s .tag)) ∷ []

@@ -20,4 +20,6 @@ pub mod SharedKeys
 pub mod FourCommands
 pub mod Examples
 pub mod Readings
+pub mod Borders
+pub mod CommandBorders
 pub mod Theorems

@@ -1,6 +1,6 @@
 -- All that is proved of the rules, in one record. Each line says of which ciphers, states and commands a claim holds;
--- the claims themselves stand in Demand3, Calls, Runs, CCalls, Claims, Repeats, SharedKeys, FourCommands and Examples. Assumes
--- nothing.
+-- the claims themselves stand in Demand3, Calls, Runs, CCalls, Claims, Repeats, SharedKeys, FourCommands, Examples, Readings,
+-- Borders and CommandBorders. Assumes nothing.
 use Prim.Native.Nat.{ℕ, _<_}
 use mathlib.Core.Path.{_≡_}
 use mathlib.Core.Bool.{true}
@@ -16,13 +16,15 @@ use Rattle.rules.specs.Demand3.{LockedCounter, Demand3, LogDemand3}
 use Rattle.rules.specs.Calls.{CallsFollow, CallsDemand3, RefusedLeaves, RefusedReads}
 use Rattle.rules.specs.Runs.{RunsDemand3, RunsLeave, RunsContinue}
 use Rattle.rules.specs.CCalls.{CalledIsCall, RunCalledIsRun, NothingLost, SessionFits}
-use Rattle.rules.specs.Claims.{LowestGiven, RefusalNamed, AnswersTold, RefusedChangesNothing, TheMap, NoSpare, Sizes, SoundStays, LockedUnit, MovesExact, PowerUpClears, OneAnswerEach, LogIsItsCommands}
+use Rattle.rules.specs.Claims.{LowestGiven, RefusalNamed, AnswersTold, RefusedChangesNothing, TheMap, NoSpare, Sizes, SoundIs, SoundStays, LockedUnit, MovesExact, PowerUpClears, OneAnswerEach, LogIsItsCommands}
 use Rattle.rules.specs.Repeats.{RepeatTold, NeverBoth, CopyTold}
 use Rattle.rules.specs.Refusals.{isSharedKey}
 use Rattle.rules.specs.SharedKeys.{ReadsListed, InsertionLeaves, ListGrows, UnitInserted, KeysShared, KeysRead}
 use Rattle.rules.specs.FourCommands.{HostReads}
 use Rattle.rules.specs.Examples.{starred, insertions, Hold, stages, errors, NotEmpty, RepeatsChange}
-use Rattle.rules.specs.Readings.{readings, hostReadings}
+use Rattle.rules.specs.Readings.{readings}
+use Rattle.rules.specs.Borders.{Borders}
+use Rattle.rules.specs.CommandBorders.{CommandBorders}
 
 pub record Theorems : Type 0 where
   -- demand 3, for lists of commands and for log runs
@@ -56,6 +58,7 @@ pub record Theorems : Type 0 where
   -- the tag
   pub the-map : (t : List ℕ) → sound t ≡ true → TheMap t
   pub no-spare : (t : List ℕ) → sound t ≡ true → segments t ≡ 128 → NoSpare t
+  pub sound-is : (t : List ℕ) → SoundIs t
   pub sizes : (t : List ℕ) → sound t ≡ true → Sizes t
   pub sound-stays : (E : Cipher) (s : State) (c : Command) → sound (s .tag) ≡ true → SoundStays E s c
   pub locked-unit : (E : Cipher) (s : State) (k : ℕ) (c : Command) → sound (s .tag) ≡ true → k < segments (s .tag)
@@ -85,6 +88,7 @@ pub record Theorems : Type 0 where
   pub errors-shown : Hold errors
   pub insertions-hold : Hold insertions
   pub readings-hold : Hold readings
-  pub host-readings-hold : Hold hostReadings
+  pub borders : Borders
+  pub command-borders : CommandBorders
   pub not-empty : NotEmpty
   pub repeats-change : RepeatsChange

@@ -1,2 +1,3 @@
 -- The root of the definitions of `tag`.
 pub mod Replies
+pub mod Theorems

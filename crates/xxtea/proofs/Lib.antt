@@ -3,3 +3,5 @@ pub mod Laws
 mod Walk
 pub mod Inverse
 pub mod Block
+pub mod Numbers
+pub mod Theorems

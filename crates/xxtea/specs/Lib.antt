@@ -2,3 +2,5 @@
 pub mod Xxtea
 pub mod Block
 pub mod Claims
+pub mod Numbers
+pub mod Theorems
