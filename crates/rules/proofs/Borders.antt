@@ -10,7 +10,7 @@ use Rattle.rules.specs.Effects.{stored, readOnly, writeMove, advanced, r
 use Rattle.rules.specs.Command.{refusal, inPlace, checks, stores, storesIn, sessionIn, newSession}
 use Rattle.rules.specs.Log.{kinds, kindIn, bodyLength, commandOf, wholeOf, first, readCode, encoded, roomFor}
 use Rattle.rules.specs.Examples.{eight, hostId}
-use Rattle.rules.specs.Borders.{Borders, counted, places, below, anyValue, byteBorders, modelBorders, unitWith, readBorders, host, hostReadBorders, writeBorders, slotBorders, unitReadBorders, editBorders, advanceBorders, listBorders, storedBorders, advancedBorders}
+use Rattle.rules.specs.Borders.{Borders, counted, places, below, anyValue, byteBorders, modelBorders, unitWith, readBorders, host, hostReadBorders, writeBorders, slotBorders, unitReadBorders, editBorders, advanceBorders, keyStageBorders, listBorders, storedBorders, advancedBorders}
 use Rattle.rules.specs.CommandBorders.{CommandBorders, borderTag, right, zeroRight, refusals, got, due, listTag, insertBorders, holder, effects, known, kindBorders, replyBorders, roomBorders}
 
 -- both under one list of what is opened
@@ -25,7 +25,7 @@ unfolding part put numberFrom same zeros xor all segments publics counter flag m
     refusal stored readOnly writeMove advanced registerStores registerSession writeStores writeSession storesIn sessionIn
     stores newSession kinds kindIn bodyLength commandOf wholeOf first readCode encoded roomFor eight hostId counted places
     below anyValue byteBorders modelBorders unitWith readBorders host hostReadBorders writeBorders slotBorders
-    unitReadBorders editBorders advanceBorders listBorders storedBorders advancedBorders borderTag right zeroRight refusals got due
+    unitReadBorders editBorders advanceBorders keyStageBorders listBorders storedBorders advancedBorders borderTag right zeroRight refusals got due
     listTag insertBorders holder effects known kindBorders replyBorders roomBorders
 computed = (
   record {
@@ -40,11 +40,13 @@ computed = (
     unit-reads-judged = refl;
     edits-judged = refl;
     advances-judged = refl;
+    key-stages-told = refl;
     hosts-listed = refl;
     writes-stored = refl;
     advances-stored = refl;
   },
   record {
+    keys-found = (refl, refl);
     refusals-given = refl;
     insertions-judged = refl;
     effects-stored = refl;

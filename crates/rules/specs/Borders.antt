@@ -15,7 +15,7 @@ use Rattle.rules.specs.Map.{segments, publics, counter, flag, placeOf}
 use Rattle.rules.specs.Units.{wellFormed, unitOf}
 use Rattle.rules.specs.Hosts.{Host, mostHosts, hostsFrom}
 use Rattle.rules.specs.Answers.{codeOf}
-use Rattle.rules.specs.Refusals.{Checks, lowest, segmentReadChecks, segmentWriteChecks, unitReadChecks, editChecks, advanceChecks}
+use Rattle.rules.specs.Refusals.{Checks, lowest, segmentReadChecks, segmentWriteChecks, unitReadChecks, editChecks, advanceChecks, isFilling, isInserted}
 use Rattle.rules.specs.Effects.{Store, _↤_, stored, writeMove, advanced}
 use Rattle.rules.specs.Examples.{eight, hostId}
 
@@ -54,6 +54,7 @@ places =
     ∷ ((4080, 16), some (RegisterOf Pa))
     ∷ ((4095, 1), some (RegisterOf Pa))
     ∷ ((4095, 2), none)
+    ∷ ((4096, 1), some Pins)
     ∷ ((4096, 4096), some Pins)
     ∷ ((8191, 2), none)
     ∷ ((8192, 4096), some Readers)
@@ -248,6 +249,7 @@ editBorders =
     ∷ ((0, false, plainUnit 0xA0 0x00, plainUnit 0x81 0x14), 13)
     ∷ ((0, false, plainUnit 0xA0 0x00, plainUnit 0xA0 0xFF), 0)
     ∷ ((0, false, plainUnit 0x20 0x13, plainUnit 0x21 0x13), 13)
+    ∷ ((0, false, plainUnit 0xA1 0x02, plainUnit 0xA0 0x00), 0)
     ∷ ((0, false, plainUnit 0x81 0x01, plainUnit 0x21 0x01), 0)
     ∷ ((0, false, plainUnit 0x85 0x01, plainUnit 0x25 0x01), 6)
     ∷ ((0, false, plainUnit 0x21 0x13, unitWith 0x7D 0x13 1 2 3 7), 0)
@@ -286,18 +288,34 @@ advanceBorders =
 abbrev pub AdvancesJudged : Type 0
 AdvancesJudged = Table (λ x. given (advanceChecks (x .0) (hostId (x .1)) (x .2))) advanceBorders
 
--- ---- the hosts that a reader ID segment lists, by the number that each row names
+-- whether a unit is model 4 at stage 0, which an insertion asks of its own segment, and at stage 1, as of those listed
+unfoldable pub keyStageBorders : List (List ℕ × (Bool × Bool))
+keyStageBorders =
+    (plainUnit 0xA1 0x00, (false, false))
+    ∷ (plainUnit 0x21 0x01, (false, false))
+    ∷ (plainUnit 0xA1 0x02, (false, false))
+    ∷ (plainUnit 0x21 0x03, (false, false))
+    ∷ (plainUnit 0x21 0x13, (false, false))
+    ∷ (plainUnit 0x81 0x23, (false, false))
+    ∷ (plainUnit 0x21 0x04, (true, false))
+    ∷ (plainUnit 0x81 0x14, (false, true))
+    ∷ []
 
-unfoldable pub listBorders : List (List ℕ × List ℕ)
+abbrev pub KeyStagesTold : Type 0
+KeyStagesTold = Table (λ u. (isFilling (unitOf u .model), isInserted (unitOf u .model))) keyStageBorders
+
+-- ---- the hosts that a reader ID segment lists
+
+unfoldable pub listBorders : List (List ℕ × List Host)
 listBorders =
-    (hostId 0 ++ 0 ∷ 4 ∷ [], [])
-    ∷ (replicate 15 0 ++ 1 ∷ 1 ∷ 2 ∷ [], 258 ∷ [])
-    ∷ (hostId 9 ++ 0 ∷ 4 ∷ hostId 8 ++ 0 ∷ 0 ∷ hostId 0 ++ 0 ∷ 3 ∷ hostId 7 ++ 0 ∷ 2 ∷ [], 4 ∷ 0 ∷ [])
-    ∷ (replicate 4096 1, replicate 85 257)
+    (hostId 0 ++ 1 ∷ 4 ∷ [], [])
+    ∷ (replicate 15 0 ++ 1 ∷ 1 ∷ 2 ∷ [], record { id = replicate 15 0 ++ 1 ∷ []; named = 258 } ∷ [])
+    ∷ (hostId 9 ++ 0 ∷ 4 ∷ hostId 8 ++ 0 ∷ 5 ∷ hostId 0 ++ 0 ∷ 3 ∷ hostId 7 ++ 0 ∷ 2 ∷ [], host 9 4 ∷ host 8 5 ∷ [])
+    ∷ (replicate 4096 1, replicate 85 (host 1 257))
     ∷ []
 
 abbrev pub HostsListed : Type 0
-HostsListed = Table (λ r. map (λ h. h .named) (hostsFrom mostHosts 0 r)) listBorders
+HostsListed = Table (hostsFrom mostHosts 0) listBorders
 
 -- ---- what a granted write stores: by the unit, where 12 stands and 10 is written; and what it then stores at its unit
 
@@ -341,6 +359,7 @@ pub record Borders : Type 0 where
   pub unit-reads-judged : UnitReadsJudged
   pub edits-judged : EditsJudged
   pub advances-judged : AdvancesJudged
+  pub key-stages-told : KeyStagesTold
   pub hosts-listed : HostsListed
   pub writes-stored : WritesStored
   pub advances-stored : AdvancesStored

@@ -8,7 +8,7 @@ use lib.ListN.{length, drop, replicate}
 use Rattle.rules.specs.declared.Session.{Session}
 use Rattle.rules.specs.Bytes.{put}
 use Rattle.rules.specs.Hosts.{Host}
-use Rattle.rules.specs.State.{State, state, poweredUp}
+use Rattle.rules.specs.State.{State, state, poweredUp, pin, owner}
 use Rattle.rules.specs.Answers.{codeOf}
 use Rattle.rules.specs.Refusals.{listRefuses}
 use Rattle.rules.specs.Effects.{Store, _↤_}
@@ -35,8 +35,11 @@ borderTag =
     ++ plainUnit 0x02 0x00
     ++ plainUnit 0x21 0x04
     ++ plainUnit 0x81 0x14
-    ++ plainUnit 0x20 0x04)
+    ++ unitWith 0x30 0x04 0 2 0 0)
     ++ padded 24576 (eight 0 255)
+
+abbrev pub KeysFound : Type 0
+KeysFound = (pin borderTag 1 ≡ replicate 16 5) × (owner borderTag 3 ≡ replicate 16 9)
 
 -- a session with these indexes, a byte of its name, and PA: PIN index, owner index, and a byte of the guard
 abbrev pub session : (r w e name : ℕ) (pa : List ℕ) (guard : ℕ) → Session
@@ -136,7 +139,7 @@ refusals =
     ∷ (insert 2 (hostId 9), 19)
     ∷ (insert 3 (hostId 1), 14)
     ∷ (insert 1 (hostId 1), 5)
-    ∷ (insert 4 (hostId 0), 14)
+    ∷ (insert 4 (hostId 0), 7)
     ∷ (insert 5 (hostId 1), 3)
     ∷ [])
     ∷ asks (knowing 1 9 9 7)
@@ -153,6 +156,7 @@ refusals =
     ∷ (write 16388 (eight 0 1), 12)
     ∷ (advance 0, 14)
     ∷ (insert 0 (hostId 1), 14)
+    ∷ (insert 4 (hostId 0), 14)
     ∷ [])
     ∷ asks (knowing 1 2 3 8)
     ((read 16384 1 1, 8)
@@ -190,7 +194,8 @@ refusals =
     ∷ (write 3984 (replicate 8 0 ++ 255 ∷ replicate 7 0), 11)
     ∷ (write 4064 (replicate 16 6), 9)
     ∷ [])
-    ∷ asks (naming (0 ∷ 255 ∷ []) (0 ∷ 3 ∷ [])) ((write 3984 zeroRight, 0) ∷ (write 4064 (replicate 16 6), 0) ∷ [])
+    ∷ asks (naming (0 ∷ 255 ∷ []) (0 ∷ 3 ∷ []))
+    ((write 3984 zeroRight, 0) ∷ (write 4032 zeroRight, 0) ∷ (write 4064 (replicate 16 6), 0) ∷ [])
     ∷ asks (naming (0 ∷ 1 ∷ []) (0 ∷ 4 ∷ [])) ((write 3984 right, 0) ∷ (write 4064 (replicate 16 6), 9) ∷ [])
     ∷ asks (naming (0 ∷ 1 ∷ []) (1 ∷ 3 ∷ [])) ((write 3984 right, 0) ∷ (write 4064 (replicate 16 6), 9) ∷ [])
     ∷ asks (naming (1 ∷ 0 ∷ []) (0 ∷ 3 ∷ []))
@@ -224,8 +229,8 @@ due (asks s rows) = map (λ x. x .1) rows
 abbrev pub RefusalsGiven : Type 0
 RefusalsGiven = map got refusals ≡ map due refusals
 
--- 19: the id of a host that is to have segment 2, and the list. On this tag A is 5. Segments 0 and 3 are at stage 1, 1 would
--- be if it were well formed, 2 and 4 are at stage 0; and behind the units the next bytes would be one at stage 1. A list of 85
+-- 19: the id of a host that is to have segment 2, and the list. On this tag A is 5. Segments 0 and 4 are at stage 1, 1 would
+-- be if it were well formed, 2 and 3 are at stage 0; and behind the units the next bytes would be one at stage 1. A list of 85
 -- rows that all fit needs a larger tag: that no more are taken is shown by the proofs of L4's claims.
 
 unfoldable pub listTag : List ℕ
@@ -234,8 +239,8 @@ listTag =
     ++ plainUnit 0x81 0x14
     ++ plainUnit 0xA1 0x14
     ++ plainUnit 0x21 0x04
-    ++ plainUnit 0x81 0x14
     ++ plainUnit 0x21 0x04
+    ++ plainUnit 0x81 0x14
     ++ plainUnit 0x81 0x14
 
 unfoldable pub insertBorders : List ((List ℕ × List Host) × Bool)
@@ -243,14 +248,14 @@ insertBorders =
     ((hostId 1, []), false)
     ∷ ((hostId 0, []), true)
     ∷ ((replicate 15 1, []), true)
-    ∷ ((hostId 1, host 9 4 ∷ host 8 1 ∷ []), false)
-    ∷ ((hostId 8, host 9 4 ∷ host 8 1 ∷ []), true)
-    ∷ ((hostId 1, host 9 4 ∷ host 9 1 ∷ []), true)
-    ∷ ((hostId 1, host 9 4 ∷ host 8 4 ∷ []), true)
+    ∷ ((hostId 1, host 9 5 ∷ host 8 1 ∷ []), false)
+    ∷ ((hostId 8, host 9 5 ∷ host 8 1 ∷ []), true)
+    ∷ ((hostId 1, host 9 5 ∷ host 9 1 ∷ []), true)
+    ∷ ((hostId 1, host 9 5 ∷ host 8 5 ∷ []), true)
     ∷ ((hostId 1, host 8 0 ∷ []), true)
     ∷ ((hostId 1, host 8 2 ∷ []), true)
     ∷ ((hostId 1, host 8 3 ∷ []), true)
-    ∷ ((hostId 1, host 8 5 ∷ []), true)
+    ∷ ((hostId 1, host 8 4 ∷ []), true)
     ∷ ((hostId 1, host 8 6 ∷ []), true)
     ∷ []
 
@@ -364,6 +369,7 @@ abbrev pub RoomAsked : Type 0
 RoomAsked = Table roomFor roomBorders
 
 pub record CommandBorders : Type 0 where
+  pub keys-found : KeysFound
   pub refusals-given : RefusalsGiven
   pub insertions-judged : InsertionsJudged
   pub effects-stored : EffectsStored
