@@ -303,7 +303,8 @@ effects =
 abbrev pub EffectsStored : Type 0
 EffectsStored = Table (λ c. (stores xorCipher holder c, newSession xorCipher holder c)) effects
 
--- ---- the command log: the kinds, the shortest body of each and one byte less, the replies and the room for them
+-- ---- the command log: the kinds, the shortest body of each, one byte less, and more bytes behind a body; the replies and
+-- the room for them
 
 unfoldable pub known : Option (Command × ℕ) → Bool
 known none = false
@@ -337,6 +338,11 @@ kindBorders =
     ∷ ((0x31, 2), some (advance 1, 2))
     ∷ ((0x32, 17), none)
     ∷ ((0x32, 18), some (insert 1 (drop 2 (counted 18)), 18))
+    ∷ ((0x00, 40), some (powerUp, 0))
+    ∷ ((0x11, 40), some (read 0x010203 1 1, 4))
+    ∷ ((0x21, 40), some (write 0x010203 (4 ∷ []), 5))
+    ∷ ((0x31, 40), some (advance 1, 2))
+    ∷ ((0x32, 40), some (insert 1 (drop 2 (counted 18)), 18))
     ∷ []
 
 abbrev pub KindsRead : Type 0
