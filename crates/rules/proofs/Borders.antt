@@ -5,10 +5,10 @@ use Rattle.rules.specs.Map.{segments, publics, counter, flag, most, mana
 use Rattle.rules.specs.Units.{unitBytes, bit, stageOf, keyStageOf, modelOf, unitOf, nameOf, modelFits, formedness, wellFormed}
 use Rattle.rules.specs.Hosts.{readers, hostAt, hostsFrom, mostHosts, hosts, any, repeats, misses, readable}
 use Rattle.rules.specs.State.{poweredUp, withRead, withWrite, withEdit, withName, withId, withPa, pinIndex, pin, owner, ownerIndex, guard, encipheredCounter, response}
-use Rattle.rules.specs.Refusals.{lowest, isNext, isRepeat, valueChecks, headerWriteChecks, isSharedKey, hides, segmentReadChecks, slotChecks, segmentWriteChecks, unitReadChecks, isReceiver, pastStageZero, sameBool, keepsModel, editAllowed, editChecks, canAdvance, advanceChecks, isFilling, isInserted, rowFits, listRefuses, insertChecks, plainChecks, responseChecks, nameChecks, commitChecks, registerChecks, readChecks, writeChecks}
-use Rattle.rules.specs.Effects.{stored, readOnly, writeMove, advanced, registerStores, registerSession, writeStores, writeSession}
+use Rattle.rules.specs.Refusals.{lowest, isNext, isRepeat, valueChecks, headerWriteChecks, isSharedKey, hides, segmentReadChecks, slotChecks, segmentWriteChecks, unitReadChecks, isReceiver, pastStageZero, sameBool, keepsModel, editAllowed, editChecks, canAdvance, advanceChecks, isFilling, isInserted, rowFits, listRefuses, insertChecks, responseChecks, nameChecks, commitChecks, blockChecks, registerChecks, readChecks, writeChecks}
+use Rattle.rules.specs.Effects.{stored, readOnly, writeMove, advanced, advanceMove, registerStores, registerSession, writeStores, writeSession}
 use Rattle.rules.specs.Command.{refusal, inPlace, checks, stores, storesIn, sessionIn, newSession}
-use Rattle.rules.specs.Log.{kinds, kindIn, bodyLength, commandOf, wholeOf, first, readCode, encoded, roomFor}
+use Rattle.rules.specs.Log.{countOf, kinds, kindIn, bodyLength, commandOf, wholeOf, first, readCode, encoded, roomFor}
 use Rattle.rules.specs.Examples.{eight, hostId}
 use Rattle.rules.specs.Borders.{Borders, counted, places, below, anyValue, byteBorders, modelBorders, unitWith, readBorders, host, hostReadBorders, writeBorders, slotBorders, unitReadBorders, editBorders, advanceBorders, keyStageBorders, listBorders, storedBorders, advancedBorders}
 use Rattle.rules.specs.CommandBorders.{CommandBorders, borderTag, right, zeroRight, refusals, got, due, listTag, insertBorders, holder, effects, known, kindBorders, replyBorders, roomBorders}
@@ -21,9 +21,9 @@ unfolding part put numberFrom same zeros xor all segments publics counter flag m
     rowFits listRefuses insertChecks poweredUp withRead withWrite withEdit withName withId withPa pinIndex ownerIndex guard
     pin owner encipheredCounter response lowest isNext isRepeat valueChecks headerWriteChecks segmentReadChecks slotChecks
     segmentWriteChecks unitReadChecks isReceiver pastStageZero sameBool keepsModel editAllowed editChecks canAdvance
-    advanceChecks plainChecks responseChecks nameChecks commitChecks registerChecks readChecks writeChecks inPlace checks
-    refusal stored readOnly writeMove advanced registerStores registerSession writeStores writeSession storesIn sessionIn
-    stores newSession kinds kindIn bodyLength commandOf wholeOf first readCode encoded roomFor eight hostId counted places
+    advanceChecks responseChecks nameChecks commitChecks blockChecks registerChecks readChecks writeChecks inPlace checks
+    refusal stored readOnly writeMove advanced advanceMove registerStores registerSession writeStores writeSession storesIn sessionIn
+    stores newSession countOf kinds kindIn bodyLength commandOf wholeOf first readCode encoded roomFor eight hostId counted places
     below anyValue byteBorders modelBorders unitWith readBorders host hostReadBorders writeBorders slotBorders
     unitReadBorders editBorders advanceBorders keyStageBorders listBorders storedBorders advancedBorders borderTag right zeroRight refusals got due
     listTag insertBorders holder effects known kindBorders replyBorders roomBorders

@@ -22,7 +22,7 @@ use Rattle.rules.specs.declared.Stop.the-variants.{End, BadCommand, Outp
 use Rattle.rules.specs.Bytes.{byte, part, number, numberFrom, bytesOf}
 use Rattle.rules.specs.State.{Cipher, State, state, pinIndex, poweredUp, withRead, withWrite, withEdit, withName, withId, withPa}
 use Rattle.rules.specs.Answers.{refusalOf, stopNumber, codeOf}
-use Rattle.rules.specs.Refusals.{Checks, _when_else_, lowest, registerChecks, responseChecks, nameChecks, plainChecks, writeChecks}
+use Rattle.rules.specs.Refusals.{Checks, _when_else_, lowest, registerChecks, blockChecks, responseChecks, writeChecks}
 use Rattle.rules.specs.Effects.{registerSession, writeSession}
 use Rattle.rules.specs.Command.{Command, read, write, advance, insert, powerUp, refused, refusal, reply, after, afterBy, newSession, sessionIn}
 use Rattle.rules.specs.Log.{Parsed, end, unreadable, _taking_then_, encoded, roomFor, stopped, onward, carriedOut, runLog, Ran, parsed}
@@ -145,21 +145,19 @@ sixteen : (n : ℕ) (cs : Checks) (bs : List ℕ) → lowest (n when not (eqb (l
     → length bs ≡ 16
 sixteen n cs bs e = eqb-true _ _ (not-false _ (passes _ _ _ e .0))
 
-response-index : (E : Cipher) (s : State) (bs : List ℕ) → lowest (responseChecks E s bs) ≡ none
-    → pinIndex (s .session) < 65536
+response-index : (E : Cipher) (t : List ℕ) (i : ℕ) (bs : List ℕ) → lowest (responseChecks E t i bs) ≡ none → i < 65536
 unfolding responseChecks
-response-index E s bs e =
-    let l = leb-true (pinIndex (s .session)) 255 (not-false _ (passes _ _ _ (passes _ _ _ e .1) .0)) in omega arith
+response-index E t i bs e = let l = leb-true i 255 (not-false _ (passes _ _ _ e .0)) in omega arith
 
 register-fits : (E : Cipher) (s : State) (r : Register) (bs : List ℕ) → lowest (registerChecks E s r bs) ≡ none
     → Fits (s .session) → Fits (registerSession E s r bs)
-unfolding registerChecks registerSession nameChecks plainChecks withRead withWrite withEdit withName withId withPa
+unfolding registerChecks blockChecks registerSession withRead withWrite withEdit withName withId withPa
 register-fits E s Read bs e h =
-    fit _ (response-index E s bs e) (h .write-index) (h .edit-index) (h .name-size) (h .id-size) (h .pa-size)
+    fit _ (response-index E (s .tag) _ bs (passes _ _ _ e .1)) (h .write-index) (h .edit-index) (h .name-size) (h .id-size) (h .pa-size)
 register-fits E s Write bs e h =
-    fit _ (h .read-index) (response-index E s bs e) (h .edit-index) (h .name-size) (h .id-size) (h .pa-size)
+    fit _ (h .read-index) (response-index E (s .tag) _ bs (passes _ _ _ e .1)) (h .edit-index) (h .name-size) (h .id-size) (h .pa-size)
 register-fits E s Edit bs e h =
-    fit _ (h .read-index) (h .write-index) (response-index E s bs e) (h .name-size) (h .id-size) (h .pa-size)
+    fit _ (h .read-index) (h .write-index) (response-index E (s .tag) _ bs (passes _ _ _ e .1)) (h .name-size) (h .id-size) (h .pa-size)
 register-fits E s Name bs e h =
     fit _ (h .read-index) (h .write-index) (h .edit-index) (length-xor bs _ ∙ sixteen 9 _ bs e) (h .id-size) (h .pa-size)
 register-fits E s Id bs e h =

@@ -17,7 +17,7 @@ use Rattle.rules.specs.Map.{sound, placeOf, segments, registerAt, regist
 use Rattle.rules.specs.Units.{wellFormed, unitBytes, unitOf, formedness}
 use Rattle.rules.specs.Hosts.{Host}
 use Rattle.rules.specs.State.{Cipher, State, withPa, pin, pinIndex, response, withRead, encipheredCounter}
-use Rattle.rules.specs.Refusals.{lowest, writeChecks, registerChecks, plainChecks, headerWriteChecks, responseChecks, isSharedKey, hides}
+use Rattle.rules.specs.Refusals.{lowest, writeChecks, registerChecks, blockChecks, headerWriteChecks, responseChecks, isSharedKey, hides}
 use Rattle.rules.specs.Effects.{apply, writeStores, writeSession, registerStores, registerSession}
 use Rattle.rules.specs.Command.{write, refusal, done, reply, after, replyBy, afterBy, grant, stores, storesIn, newSession, sessionIn, read, gives}
 use Rattle.rules.specs.Run.{replies}
@@ -55,7 +55,7 @@ unfolding registerNo writeStores registerStores writeSession registerSession app
 pa-written E s pa w l =
     write-done E s (RegisterOf Pa) (registerAt 6) pa w (omega arith) (omega arith)
     (rw l (register-holds (s .tag) 6 16 (omega arith) (omega arith)))
-    (unfold writeChecks registerChecks plainChecks in clears _ _ _ (ap not (eq-eqb _ _ l)) none-applies)
+    (unfold writeChecks registerChecks blockChecks in clears _ _ _ (ap not (eq-eqb _ _ l)) none-applies)
 
 -- ---- 2. the counter
 
@@ -89,7 +89,7 @@ read-validated E s bs i w l f q m e =
 
     passed : lowest (writeChecks E s (RegisterOf Read) (registerAt 0) bs) ≡ none
     passed =
-        unfold writeChecks registerChecks responseChecks in
+        unfold writeChecks registerChecks blockChecks responseChecks in
         clears _ _ _ (ap not (eq-eqb _ _ l)) (clears _ _ _ (ap not (le-leb (pinIndex (s .session)) 255 (rw q m)))
         (clears _ _ _ (rw f) (clears _ _ _ (ap not right) none-applies)))
 

@@ -17,7 +17,7 @@ use Rattle.rules.specs.Bytes.{number}
 use Rattle.rules.specs.Map.{sound, placeOf, segments}
 use Rattle.rules.specs.Units.{unitOf, unitBytes}
 use Rattle.rules.specs.State.{Cipher, State, pinIndex}
-use Rattle.rules.specs.Refusals.{lowest, writeChecks, Checks, headerWriteChecks, registerChecks, commitChecks, segmentWriteChecks, valueChecks, slotChecks, editChecks, canAdvance, advanceChecks}
+use Rattle.rules.specs.Refusals.{lowest, writeChecks, Checks, headerWriteChecks, registerChecks, blockChecks, commitChecks, segmentWriteChecks, valueChecks, slotChecks, editChecks, canAdvance, advanceChecks}
 use Rattle.rules.specs.Effects.{Store, refusalStores, apply, writeStores}
 use Rattle.rules.specs.Command.{Command, stores, refusal, after, afterBy, reply, replyBy, refused, done, write, inPlace, checks, storesIn, advance}
 use Rattle.rules.specs.Claims.{Holds}
@@ -106,7 +106,7 @@ header-facts E s a bs e =
 
 pub commit-facts : (E : Cipher) (s : State) (bs : List ℕ) → lowest (registerChecks E s Commit bs) ≡ none
     → (length bs ≡ 16) × (1 ≤ pinIndex (s .session)) × (pinIndex (s .session) ≤ 255)
-unfolding registerChecks commitChecks
+unfolding registerChecks blockChecks commitChecks
 commit-facts E s bs e =
     let c0 = passes _ _ _ e in
     let c1 = passes _ _ _ (c0 .1) in

@@ -16,11 +16,11 @@ use Rattle.rules.specs.Bytes.{byte, number, part, put, zeros}
 use Rattle.rules.specs.Units.{bit, modelled, modelNo, stageNo, keyStageOf, modelOf, modelFits, formedness, unitOf, wellFormed}
 use Rattle.rules.specs.Refusals.{isSharedKey, isFilling}
 use Rattle.rules.specs.Effects.{inserted, readOnly}
-use Rattle.rules.specs.Claims.{bits}
+use Rattle.rules.specs.Claims.{bits, readOnlyBits}
 use Rattle.rules.specs.SharedKeys.{UnitInserted}
 use Rattle.rules.proofs.Tests.{true-false, all-true, all-and, all-none}
 use Rattle.rules.proofs.BytesLaws.{part-put}
-use Rattle.rules.proofs.Moves.{bit-set, read-only-bits}
+use Rattle.rules.proofs.Moves.{read-only-bits}
 
 -- ---- "After insertion the segment is stage 1, RD only"
 
@@ -125,25 +125,19 @@ module _ (u : List ℕ) (long : length u ≡ 32) (e : wellFormed u ≡ true) (f 
       let g = y .1 in
       (x .0, (unfold unitOf in y .2), (unfold unitOf in y .3), omega (arith, m, g))
 
-  two-bytes : (byte 0 after-it ≡ byte 0 u + 96) × (byte 1 after-it ≡ 20)
-  two-bytes = bytes u long (fields .2) (fields .3)
+  two-bytes : (byte 0 after-it ≡ readOnly (byte 0 u)) × (byte 1 after-it ≡ 0x14)
+  two-bytes = bytes u long
     where
-      bytes : (v : List ℕ) → length v ≡ 32 → bit 5 (byte 0 v) ≡ true → byte 1 v ≡ 4
-          → (byte 0 (put 0 (inserted v) v) ≡ byte 0 v + 96) × (byte 1 (put 0 (inserted v) v) ≡ 20)
-      bytes [] l b c = absurd (omega arith)
-      bytes (p ∷ []) l b c = absurd (omega arith)
-      bytes (p ∷ q ∷ v) l b c =
-          let z = bit-set 5 p b in
-          unfold put inserted readOnly in (omega (arith, z), omega (arith, c))
+      bytes : (v : List ℕ) → length v ≡ 32
+          → (byte 0 (put 0 (inserted v) v) ≡ readOnly (byte 0 v)) × (byte 1 (put 0 (inserted v) v) ≡ 0x14)
+      bytes [] l = absurd (omega arith)
+      bytes (p ∷ []) l = absurd (omega arith)
+      bytes (p ∷ q ∷ v) l = unfold put inserted in (refl, refl)
 
-  control : bits (byte 0 after-it)
-      ≡ true ∷ bit 6 (byte 0 u) ∷ false ∷ bit 4 (byte 0 u) ∷ bit 3 (byte 0 u) ∷ bit 2 (byte 0 u) ∷ bit 1 (byte 0 u)
-      ∷ bit 0 (byte 0 u) ∷ []
-  control = ap bits (two-bytes .0) ∙ read-only-bits (byte 0 u) (fields .1) (fields .2)
+  control : bits (byte 0 after-it) ≡ readOnlyBits (byte 0 u)
+  control = ap bits (two-bytes .0) ∙ read-only-bits (byte 0 u)
 
-  control-bit : (i : ℕ) → getD (bits (byte 0 after-it)) i false
-      ≡ getD (true ∷ bit 6 (byte 0 u) ∷ false ∷ bit 4 (byte 0 u) ∷ bit 3 (byte 0 u) ∷ bit 2 (byte 0 u) ∷ bit 1 (byte 0 u)
-      ∷ bit 0 (byte 0 u) ∷ []) i false
+  control-bit : (i : ℕ) → getD (bits (byte 0 after-it)) i false ≡ getD (readOnlyBits (byte 0 u)) i false
   control-bit i = ap (λ bs. getD bs i false) control
 
   others-stay : (a n : ℕ) → 2 ≤ a → part a n after-it ≡ part a n u

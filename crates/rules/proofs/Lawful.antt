@@ -9,6 +9,7 @@ use mathlib.Core.Option.{Option, none, some}
 use native.Mathlib.Omega.{arith}
 use lib.ListN.{length, length-append}
 use lib.Dec.{eqb}
+use Rattle.rules.specs.declared.Stage.{Stage}
 use Rattle.rules.specs.declared.Stage.the-variants.{Zero, One, Two}
 use Rattle.rules.specs.declared.KeyStage.the-variants.{Inserted}
 use Rattle.rules.specs.declared.Model.{Model}
@@ -23,7 +24,7 @@ use Rattle.rules.specs.Units.{unitOf, unitBytes}
 use Rattle.rules.specs.Hosts.{Host, hosts, hostSlotAt}
 use Rattle.rules.specs.State.{Cipher, State, pinIndex}
 use Rattle.rules.specs.Refusals.{lowest, registerChecks, writeChecks, isSharedKey}
-use Rattle.rules.specs.Effects.{Store, _↤_, registerStores, stored, writeMove, writeStores, advanced, advanceStores, pairStores, joinStores, inserted, rowStore, insertStores, refusalStores, setFlag, apply}
+use Rattle.rules.specs.Effects.{Store, _↤_, registerStores, stored, writeMove, writeStores, advanced, advanceMove, advanceStores, pairStores, joinStores, inserted, rowStore, insertStores, refusalStores, setFlag, apply}
 use Rattle.rules.specs.Command.{write, advance, refusal, Command, read, stores, insert, powerUp, after}
 use Rattle.rules.specs.Claims.{SoundStays, Holds, NoInsertion}
 use Rattle.rules.proofs.BytesLaws.{length-xor, length-bytesOf}
@@ -109,19 +110,22 @@ write-lawful E s (Segment k) a bs w f e =
     (to-bytes (omega arith) refl (length-stored _ _ bs), move-lawful (s .tag) k a (length bs) _ refl)
 write-lawful E s (Public k) a bs w f e = let g = sound-long (s .tag) w .0 in (to-bytes (omega arith) refl refl, tt)
 
-length-advanced : (m : Model) (u : List ℕ) → length (advanced m u) ≡ 2
+pub length-advanced : (g : Stage) (u : List ℕ) → length (advanced g u) ≡ 2
 unfolding advanced
-length-advanced Default u = refl
-length-advanced WriteOnce u = refl
-length-advanced Counter u = refl
-length-advanced (Receiver Zero) u = refl
-length-advanced (Receiver One) u = refl
-length-advanced (Receiver Two) u = refl
-length-advanced (SharedKey g) u = refl
+length-advanced Zero u = refl
+length-advanced One u = refl
+length-advanced Two u = refl
 
 advance-lawful : (t : List ℕ) (k : ℕ) → Each (Lawful t (UnitOf k) (unitAt k) 2) (advanceStores t k)
-unfolding advanceStores
-advance-lawful t k = (to-bytes (omega arith) refl (length-advanced _ _), tt)
+unfolding advanceStores advanceMove
+advance-lawful t k = by (unitOf (unitBytes t k) .model)
+  where
+    by : (m : Model) → Each (Lawful t (UnitOf k) (unitAt k) 2) (advanceMove m (unitAt k) (unitBytes t k))
+    by Default = tt
+    by WriteOnce = tt
+    by Counter = tt
+    by (Receiver g) = (to-bytes (omega arith) refl (length-advanced g _), tt)
+    by (SharedKey g) = tt
 
 -- an insertion stores in the host list, in segments of model 4, and the first two bytes of a unit
 joins-lawful : (t : List ℕ) (k x : ℕ) (id : List ℕ) (i : ℕ) (hs : List Host) (u : List ℕ) (a n : ℕ)

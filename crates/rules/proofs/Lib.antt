@@ -23,7 +23,6 @@ pub mod Copies
 pub mod Exchange
 pub mod Demand3
 pub mod LogLaws
-pub mod LogDemand3
 pub mod FourCommands
 pub mod Examples
 pub mod Borders

@@ -18,7 +18,7 @@ use Rattle.rules.specs.Units.{unitOf, unitBytes}
 use Rattle.rules.specs.Hosts.{hosts}
 use Rattle.rules.specs.State.{Cipher, State}
 use Rattle.rules.specs.Refusals.{canAdvance, lowest, writeChecks}
-use Rattle.rules.specs.Effects.{Store, apply, _↤_, writeMove, readOnly, advanceStores, advanced, rowStore, inserted, insertStores, writeStores}
+use Rattle.rules.specs.Effects.{Store, apply, _↤_, writeMove, readOnly, advanceStores, advanceMove, advanced, rowStore, inserted, insertStores, writeStores}
 use Rattle.rules.specs.Command.{write, read, advance, insert, Command, refusal, stores, powerUp, after}
 use Rattle.rules.specs.Claims.{ownMove, OwnMover, LockedUnit}
 use Rattle.rules.proofs.Tests.{true-false}
@@ -59,12 +59,12 @@ segment-moves M o t k a ys (SharedKey g) e h = inl (part-put (unitAt k) 32 a ys 
 -- an advance of the segment
 advance-moves : (M : Type 0) → M → (t : List ℕ) (k : ℕ) (m : Model) → unitOf (unitBytes t k) .model ≡ m → canAdvance m ≡ true
     → Moves M (unitBytes t k) (unitBytes (apply (advanceStores t k) t) k)
-unfolding unitBytes canAdvance apply advanceStores ownMove
+unfolding unitBytes canAdvance apply advanceStores advanceMove ownMove
 advance-moves M o t k Default e h = true-false (sym h)
 advance-moves M o t k WriteOnce e h = true-false (sym h)
 advance-moves M o t k Counter e h = true-false (sym h)
 advance-moves M o t k (Receiver g) e h =
-    inr (o, rw e (part-put-start (unitAt k) 32 (advanced (Receiver g) (part (unitAt k) 32 t)) t))
+    inr (o, rw e (part-put-start (unitAt k) 32 (advanced g (part (unitAt k) 32 t)) t))
 advance-moves M o t k (SharedKey g) e h = true-false (sym h)
 
 -- the insertion of its host: all stores but the last are elsewhere

@@ -5,13 +5,14 @@ use mathlib.Core.Bool.{Bool, true, false, cond}
 use mathlib.Core.List.{List, [], _∷_, _++_}
 use mathlib.Core.Option.{Option, none, some}
 use native.Mathlib.Omega.{arith}
+use native.Mathlib.Nat.{add-zero}
 use lib.ListN.{length, drop}
 use lib.Dec.{leb}
 use borrow.Author.Tests.{leb-true, le-leb, lt-leb}
 use Rattle.rules.specs.State.{Cipher, State}
 use Rattle.rules.specs.Command.{Command, refused, reply, after}
 use Rattle.rules.specs.Run.{replies, final}
-use Rattle.rules.specs.Log.{parsed, first, unreadable, parsedBy, _taking_then_, runLog, carriedOut, commandsOf, roomFor, stopped, encoded, Parsed, onward, Ran, encodedAll, end, Kind, wholeOf, bodyLength, commandOf}
+use Rattle.rules.specs.Log.{parsed, first, unreadable, parsedBy, _taking_then_, runLog, carriedOut, commandsOf, roomFor, stopped, encoded, Parsed, onward, Ran, encodedAll, end, Kind, wholeOf, bodyLength, commandOf, commands}
 use Rattle.rules.specs.Claims.{LogIsItsCommands}
 use Rattle.rules.proofs.Tests.{some-none, same-some}
 
@@ -122,3 +123,14 @@ run-reads-all E s zero (b ∷ body) room h e =
         let t = ap (λ r. r .taken) h in
         let x = later (after E s c) n _ (body-fits _ body c n q) (sym (ap (λ r. r .stop) h) ∙ f) in
         omega (arith, t, x)
+
+-- so it is the run of the list of the log's commands
+pub log-is-list : (E : Cipher) (s : State) (log : List ℕ) (room : ℕ) → runLog E s log room .stop ≡ none
+    → (runLog E s log room .taken ≡ length log)
+    × (runLog E s log room .output ≡ encodedAll (replies E s (commands log)))
+    × (runLog E s log room .state ≡ final E s (commands log))
+unfolding runLog
+log-is-list E s log room e =
+    let x = run-is-list E s (parsed 0 log) room e in
+    let y = run-reads-all E s 0 log room (omega arith) e in
+    (sym (add-zero _) ∙ y, x .0, x .1)

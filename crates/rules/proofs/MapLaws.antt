@@ -1,15 +1,15 @@
--- Laws of the address rule, of the header and of soundness. No other proof opens the address rule.
-use Prim.Native.Nat.{ℕ, zero, suc, _+_, _%_, _≤_}
+-- Laws of the address rule, of the header and of soundness. No other proof about the rules opens the address rule.
+use Prim.Native.Nat.{ℕ, zero, suc, _+_, _*_, _%_, _≤_}
 use mathlib.Core.Path.{_≡_, refl, ap, ap₂, _∙_}
 use mathlib.Core.Bool.{true}
 use mathlib.Core.List.{List, [], _∷_}
 use native.Mathlib.Omega.{arith}
-use lib.ListN.{length, replicate}
+use lib.ListN.{length, replicate, length-replicate, getD-replicate, take, drop}
 use lib.Dec.{eqb}
 use borrow.Author.Tests.{leb-true, eqb-true, eq-eqb, le-leb}
-use Rattle.rules.specs.Bytes.{zeros, part, put, number, Apart}
+use Rattle.rules.specs.Bytes.{zeros, part, put, number, numberFrom, Apart}
 use Rattle.rules.specs.Map.{most, unitAt, segmentsAt, segments, managements, segmentAt, publics, flag, pinAt, sound, soundness}
-use Rattle.rules.specs.Claims.{Sizes, SoundTag, SoundIs}
+use Rattle.rules.specs.Claims.{Sizes, SizesReached, SoundTag, SoundIs}
 use Rattle.rules.proofs.Tests.{and-true, all-true, all-and, all-none}
 use Rattle.rules.proofs.BytesLaws.{length-part, part-put, byte-put-out, byte-put, length-put}
 
@@ -177,3 +177,42 @@ sizes t w =
     let f = sound-facts t w in
     let l = f .long in
     record { smallest = omega arith; largest = omega arith }
+
+-- a part of zeros
+zero-part : (a n m : ℕ) → a + n ≤ m → take n (drop a (replicate {A = ℕ} m 0)) ≡ replicate {A = ℕ} n 0
+zero-part zero zero m h = refl
+zero-part zero (suc n) zero h = absurd (omega arith)
+zero-part zero (suc n) (suc m) h = ap {B = List ℕ} (λ bs. 0 ∷ bs) (zero-part zero n m (omega arith))
+zero-part (suc a) n zero h = absurd (omega arith)
+zero-part (suc a) n (suc m) h = zero-part a n m (omega arith)
+
+-- a tag of zeros, but for A and P
+abbrev plain : (A P n : ℕ) → List ℕ
+plain A P n = 0 ∷ A ∷ 0 ∷ P ∷ replicate {A = ℕ} n 0
+
+plain-sound : (A P n : ℕ) → 1 ≤ A → A ≤ 128 → P ≤ 128 → 4 + n ≡ 4096 * (4 + A + P) → SoundTag (plain A P n)
+unfolding segments publics flag part numberFrom
+plain-sound A P n least a p l =
+    let long : length (replicate {A = ℕ} n 0) ≡ n = length-replicate {A = ℕ} n 0 in
+    record {
+      its-length = omega arith;
+      least-segments = omega arith;
+      most-segments = omega arith;
+      most-publics = omega arith;
+      flag-range = rw (getD-replicate {A = ℕ} n 8 0 0 (omega arith)) (omega arith);
+      three-zeros = zero-part 9 3 n (omega arith);
+      pin-zero = zero-part 4092 16 n (omega arith);
+    }
+
+reached : (A P n : ℕ) → 1 ≤ A → A ≤ 128 → P ≤ 128 → 4 + n ≡ 4096 * (4 + A + P)
+    → (t : List ℕ) × (sound t ≡ true) × (length t ≡ 4 + n)
+reached A P n least a p l =
+    let long : length (replicate {A = ℕ} n 0) ≡ n = length-replicate {A = ℕ} n 0 in
+    (plain A P n, sound-is (plain A P n) .no-more-asked (plain-sound A P n least a p l), omega arith)
+
+pub sizes-reached : SizesReached
+sizes-reached =
+    record {
+      smallest = reached 1 0 20476 (omega arith) (omega arith) (omega arith) refl;
+      largest = reached 128 128 1064956 (omega arith) (omega arith) (omega arith) refl;
+    }

@@ -15,13 +15,13 @@ use Rattle.rules.specs.declared.Register.the-variants.{Read, Write, Edit
 use Rattle.rules.specs.declared.Place.{Place}
 use Rattle.rules.specs.declared.Place.the-variants.{Header, Hidden, RegisterOf, Pins, Readers, UnitOf, Spare, Segment, Public}
 use Rattle.rules.specs.declared.Refusal.{Refusal}
-use Rattle.rules.specs.declared.Refusal.the-variants.{Unsound, Count, Outside, NeverTaken, Malformed, Forbidden, OtherPin, OtherName, BadRegister, FlagUsed, WrongResponse, NotNext, BadEdit, OtherModel, Unreadable, NoRoom, Repeated, BadInsertion}
+use Rattle.rules.specs.declared.Refusal.the-variants.{Unsound, Count, Outside, NeverTaken, Malformed, Forbidden, OtherPin, OtherName, BadRegister, FlagUsed, WrongResponse, NotNext, BadEdit, OtherModel, Unreadable, Repeated, BadInsertion}
 use Rattle.rules.specs.Bytes.{put, byte}
 use Rattle.rules.specs.Map.{placeOf, sound, flag}
 use Rattle.rules.specs.Units.{unitBytes, unitOf}
 use Rattle.rules.specs.State.{Cipher, State}
 use Rattle.rules.specs.Answers.{numberOf}
-use Rattle.rules.specs.Refusals.{Checks, granted, _when_else_, lowest, registerChecks, responseChecks, nameChecks, commitChecks, plainChecks, writeChecks, headerWriteChecks, valueChecks, slotChecks, editChecks, segmentWriteChecks, readChecks, unitReadChecks, segmentReadChecks, advanceChecks, insertChecks}
+use Rattle.rules.specs.Refusals.{Checks, granted, _when_else_, lowest, registerChecks, blockChecks, responseChecks, nameChecks, commitChecks, writeChecks, headerWriteChecks, valueChecks, slotChecks, editChecks, segmentWriteChecks, readChecks, unitReadChecks, segmentReadChecks, advanceChecks, insertChecks}
 use Rattle.rules.specs.Effects.{refusalStores, apply, setFlag}
 use Rattle.rules.specs.Command.{write, inPlace, read, Command, advance, insert, powerUp, checks, refusal, refused, after, afterBy, filled, reply}
 use Rattle.rules.specs.Claims.{Applies, LowestGiven, Among, refusalsOf, RefusalNamed, RefusedChangesNothing}
@@ -96,7 +96,7 @@ none-left (j when false else cs) m e (inr a) = none-left cs m e a
 
 register-ascends : (E : Cipher) (s : State) (r : Register) (a : ℕ) (bs : List ℕ)
     → ascends 2 (refusalsOf (write a bs)) (registerChecks E s r bs) ≡ true
-unfolding registerChecks responseChecks nameChecks commitChecks plainChecks
+unfolding registerChecks blockChecks responseChecks nameChecks commitChecks
 register-ascends E s Read a bs = refl
 register-ascends E s Write a bs = refl
 register-ascends E s Edit a bs = refl
@@ -209,7 +209,6 @@ eleven-or-none NotNext = inr refl
 eleven-or-none BadEdit = inr refl
 eleven-or-none OtherModel = inr refl
 eleven-or-none Unreadable = inr refl
-eleven-or-none NoRoom = inr refl
 eleven-or-none Repeated = inr refl
 eleven-or-none BadInsertion = inr refl
 

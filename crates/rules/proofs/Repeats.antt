@@ -19,7 +19,7 @@ use Rattle.rules.specs.Bytes.{number, part}
 use Rattle.rules.specs.Map.{sound, segments, segmentAt, slotAt, placeOf}
 use Rattle.rules.specs.Units.{unitBytes, unitOf, modelOf, modelFits, wellFormed}
 use Rattle.rules.specs.State.{Cipher, State}
-use Rattle.rules.specs.Refusals.{lowest, valueChecks, slotChecks, segmentWriteChecks, headerWriteChecks, editChecks, registerChecks, responseChecks, nameChecks, commitChecks, plainChecks, writeChecks}
+use Rattle.rules.specs.Refusals.{lowest, valueChecks, slotChecks, segmentWriteChecks, headerWriteChecks, editChecks, registerChecks, blockChecks, responseChecks, nameChecks, commitChecks, writeChecks}
 use Rattle.rules.specs.Command.{Command, read, write, advance, insert, powerUp, refusal, checks, inPlace, after}
 use Rattle.rules.specs.Run.{final}
 use Rattle.rules.specs.Demand3.{slot, valueAt, CounterSegment, LockedCounter}
@@ -171,7 +171,7 @@ module _ (E : Cipher) (s : State) (a : ℕ) (bs : List ℕ) where
       )
 
   register-lacks-18 : (r : Register) → has 18 (registerChecks E s r bs) ≡ false
-  unfolding registerChecks responseChecks nameChecks commitChecks plainChecks
+  unfolding registerChecks blockChecks responseChecks nameChecks commitChecks
   register-lacks-18 Read = refl
   register-lacks-18 Write = refl
   register-lacks-18 Edit = refl

@@ -14,8 +14,8 @@ use borrow.Author.Tests.{leb-true, le-leb}
 use Rattle.rules.specs.State.{Cipher, State}
 use Rattle.rules.specs.Command.{Command, Reply, read, write, advance, insert, powerUp, done, gives, refused, refusal, grant, reply, replyBy, after}
 use Rattle.rules.specs.Run.{replies}
-use Rattle.rules.specs.Log.{Kind, powers, advances, inserts, reads, writes, kinds, kindIn, bodyLength, commandOf, wholeOf, first, Parsed, end, unreadable, _taking_then_, parsedBy, parsed, commandsOf, readCode, encoded, encodedAll, roomFor, stopped, onward, carriedOut, runLog, Ran}
-use Rattle.rules.specs.Runs.{dataLength, answerAt, answersIn, RunsContinue}
+use Rattle.rules.specs.Log.{Kind, powers, advances, inserts, reads, writes, kinds, kindIn, countOf, bodyLength, commandOf, wholeOf, first, Parsed, end, unreadable, _taking_then_, parsedBy, parsed, commandsOf, readCode, dataLength, encoded, encodedAll, roomFor, stopped, onward, carriedOut, runLog, Ran}
+use Rattle.rules.specs.Runs.{answerAt, answersIn, RunsContinue}
 use Rattle.rules.proofs.Tests.{some-none, same-some}
 use Rattle.rules.proofs.BytesLaws.{length-part, part-front}
 use Rattle.rules.proofs.GrantedRead.{granted-read}
@@ -46,7 +46,7 @@ KindsOf [] = Unit {0}
 KindsOf (k ∷ ks) = KindOf (k .1) × KindsOf ks
 
 each-kind : KindsOf kinds
-unfolding kinds
+unfolding kinds countOf
 each-kind =
     (tt, (inl refl, (inr (inl refl), (inr (inr (inl refl)), (inr (inr (inr refl)), (tt, (tt, (tt, (tt, (tt, (tt, tt)))))))))))
 
@@ -349,7 +349,7 @@ pub record CodeBack (n : ℕ) : Type 0 where
   pub not-refused : eqb (readCode n) 0x51 ≡ false
 
 code-back : (n : ℕ) → LogCount n → CodeBack n
-unfolding dataLength readCode
+unfolding dataLength readCode countOf
 code-back n (inl e) = rw e (record { count = refl; not-done = refl; not-refused = refl })
 code-back n (inr (inl e)) = rw e (record { count = refl; not-done = refl; not-refused = refl })
 code-back n (inr (inr (inl e))) = rw e (record { count = refl; not-done = refl; not-refused = refl })
@@ -362,8 +362,8 @@ answers-skip (x ∷ xs) ys = answers-skip xs ys
 
 answer-back : (r : Reply) → Readable r → (rest : List ℕ) → answersIn 0 (encoded r ++ rest) ≡ r ∷ answersIn 0 rest
 unfolding answersIn answerAt encoded
-answer-back done h rest = (unfold dataLength in refl)
-answer-back (refused n) h rest = (unfold dataLength in refl)
+answer-back done h rest = (unfold dataLength countOf in refl)
+answer-back (refused n) h rest = (unfold dataLength countOf in refl)
 answer-back (gives bs) h rest =
     let c = code-back (length bs) h in
     rw (c .not-done, c .not-refused, c .count) (ap₂ {C = List Reply} (λ b rs. gives b ∷ rs) (part-front bs rest) (answers-skip bs rest))

@@ -17,7 +17,7 @@ use Rattle.rules.specs.declared.Run.{Run}
 use Rattle.rules.proofs.BytesLaws.{length-put, part-put-same, put-behind}
 use Rattle.rules.proofs.Counting.{one-answer-each}
 use Rattle.rules.proofs.Demand3.{demand-3}
-use Rattle.rules.proofs.LogDemand3.{is-list}
+use Rattle.rules.proofs.LogLaws.{log-is-list}
 use Rattle.rules.proofs.RunLaws.{each-of, run-fits, run-reads, replies-back}
 
 module _ (E : Cipher) (s : State) where
@@ -45,7 +45,7 @@ module _ (E : Cipher) (s : State) where
       × (state t (r .session) ≡ final E s (commands log))
   unfolding runOver resultOf
   run-is-list log r t o h =
-      let x = is-list E s log (length (h .out)) (sym (ap (λ q. q .stop) (h .met)) ∙ ap stopNumber (h .ended)) in (
+      let x = log-is-list E s log (length (h .out)) (sym (ap (λ q. q .stop) (h .met)) ∙ ap stopNumber (h .ended)) in (
         ap (λ q. q .read) (h .met) ∙ x .0,
         ap (answersIn 0) (runs-leave log (h .out) r t o (h .met) .replied ∙ x .1)
             ∙ replies-back E s (parsed 0 log) (each-of 0 log),

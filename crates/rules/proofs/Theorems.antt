@@ -1,6 +1,6 @@
 -- All that is proved of the rules.
 use Rattle.rules.specs.Theorems.{Theorems}
-use Rattle.rules.proofs.MapLaws.{sound-is, sizes}
+use Rattle.rules.proofs.MapLaws.{sound-is, sizes, sizes-reached}
 use Rattle.rules.proofs.Places.{the-map, no-spare}
 use Rattle.rules.proofs.Lawful.{sound-stays}
 use Rattle.rules.proofs.Locked.{locked-unit}
@@ -14,7 +14,6 @@ use Rattle.rules.proofs.RunLaws.{runs-continue}
 use Rattle.rules.proofs.Runs.{runs-leave, runs-demand-3}
 use Rattle.rules.proofs.CCalls.{called-is-call, run-called-is-run, nothing-lost, session-fits}
 use Rattle.rules.proofs.LogLaws.{log-is-its-commands}
-use Rattle.rules.proofs.LogDemand3.{log-demand-3}
 use Rattle.rules.proofs.FourCommands.{host-reads}
 use Rattle.rules.proofs.Examples.{starred-hold, insertions-hold, stages-hold, errors-shown, readings-hold, not-empty, repeats-change}
 use Rattle.rules.proofs.Borders.{borders, command-borders}
@@ -27,7 +26,6 @@ pub theorems : Theorems
 theorems =
     record {
       demand-3 = demand-3;
-      log-demand-3 = log-demand-3;
       calls-follow = calls-follow;
       calls-demand-3 = calls-demand-3;
       refused-leaves = refused-leaves;
@@ -50,6 +48,7 @@ theorems =
       no-spare = no-spare;
       sound-is = sound-is;
       sizes = sizes;
+      sizes-reached = sizes-reached;
       sound-stays = sound-stays;
       locked-unit = locked-unit;
       moves-exact = moves-exact;

@@ -7,13 +7,13 @@ use lib.ListN.{getD}
 use lib.Dec.{eqb}
 use Rattle.rules.specs.declared.Answer.{Answer}
 use Rattle.rules.specs.declared.Answer.the-variants.{Done, Refused}
-use Rattle.rules.specs.declared.Refusal.the-variants.{Unsound, Count, Outside, NeverTaken, Malformed, Forbidden, OtherPin, OtherName, BadRegister, FlagUsed, WrongResponse, NotNext, BadEdit, OtherModel, Unreadable, NoRoom, Repeated, BadInsertion}
+use Rattle.rules.specs.declared.Refusal.the-variants.{Unsound, Count, Outside, NeverTaken, Malformed, Forbidden, OtherPin, OtherName, BadRegister, FlagUsed, WrongResponse, NotNext, BadEdit, OtherModel, Unreadable, Repeated, BadInsertion}
 use Rattle.rules.specs.declared.Stop.{Stop}
 use Rattle.rules.specs.declared.Stop.the-variants.{End, BadCommand, OutputFull}
 use Rattle.rules.specs.Answers.{refusalOf, stopNumber, codeOf}
 use Rattle.rules.specs.Claims.{AnswersTold}
 
--- the answers in the order of their numbers; 17 is none of them
+-- the answers in the order of their numbers; 16 and 17 are none of them
 answers : List Answer
 answers =
     Done
@@ -32,7 +32,7 @@ answers =
     ∷ Refused BadEdit
     ∷ Refused OtherModel
     ∷ Refused Unreadable
-    ∷ Refused NoRoom
+    ∷ Done
     ∷ Done
     ∷ Refused Repeated
     ∷ Refused BadInsertion
@@ -56,7 +56,6 @@ read-back (Refused NotNext) = refl
 read-back (Refused BadEdit) = refl
 read-back (Refused OtherModel) = refl
 read-back (Refused Unreadable) = refl
-read-back (Refused NoRoom) = refl
 read-back (Refused Repeated) = refl
 read-back (Refused BadInsertion) = refl
 

@@ -2,7 +2,7 @@
 use Prim.Native.Nat.{ℕ}
 use mathlib.Core.Option.{Option, none, some}
 use Rattle.rules.specs.declared.Refusal.{Refusal}
-use Rattle.rules.specs.declared.Refusal.the-variants.{Unsound, Count, Outside, NeverTaken, Malformed, Forbidden, OtherPin, OtherName, BadRegister, FlagUsed, WrongResponse, NotNext, BadEdit, OtherModel, Unreadable, NoRoom, Repeated, BadInsertion}
+use Rattle.rules.specs.declared.Refusal.the-variants.{Unsound, Count, Outside, NeverTaken, Malformed, Forbidden, OtherPin, OtherName, BadRegister, FlagUsed, WrongResponse, NotNext, BadEdit, OtherModel, Unreadable, Repeated, BadInsertion}
 use Rattle.rules.specs.declared.Answer.{Answer}
 use Rattle.rules.specs.declared.Answer.the-variants.{Done, Refused}
 use Rattle.rules.specs.declared.Stop.{Stop}
@@ -24,7 +24,6 @@ numberOf NotNext = 12
 numberOf BadEdit = 13
 numberOf OtherModel = 14
 numberOf Unreadable = 15
-numberOf NoRoom = 16
 numberOf Repeated = 18
 numberOf BadInsertion = 19
 

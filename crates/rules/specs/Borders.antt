@@ -16,7 +16,7 @@ use Rattle.rules.specs.Units.{wellFormed, unitOf}
 use Rattle.rules.specs.Hosts.{Host, mostHosts, hostsFrom}
 use Rattle.rules.specs.Answers.{codeOf}
 use Rattle.rules.specs.Refusals.{Checks, lowest, segmentReadChecks, segmentWriteChecks, unitReadChecks, editChecks, advanceChecks, isFilling, isInserted}
-use Rattle.rules.specs.Effects.{Store, _↤_, stored, writeMove, advanced}
+use Rattle.rules.specs.Effects.{Store, _↤_, stored, writeMove, advanceMove}
 use Rattle.rules.specs.Examples.{eight, hostId}
 
 -- a table: inputs, each with what f gives for it
@@ -335,17 +335,17 @@ abbrev pub WritesStored : Type 0
 WritesStored =
     Table (λ u. (stored (unitOf u .model) (12 ∷ []) (10 ∷ []), writeMove (unitOf u .model) 12288 u)) storedBorders
 
--- an advance: the two first bytes of the unit after it
-unfoldable pub advancedBorders : List (List ℕ × List ℕ)
+-- an advance: what it stores at its unit
+unfoldable pub advancedBorders : List (List ℕ × List Store)
 advancedBorders =
-    (plainUnit 0x21 0x03, 0x21 ∷ 0x13 ∷ [])
-    ∷ (plainUnit 0x3D 0x03, 0x3D ∷ 0x13 ∷ [])
-    ∷ (plainUnit 0x21 0x13, 0x81 ∷ 0x23 ∷ [])
-    ∷ (plainUnit 0x3D 0x13, 0x9D ∷ 0x23 ∷ [])
+    (plainUnit 0x21 0x03, (12288 ↤ (0x21 ∷ 0x13 ∷ [])) ∷ [])
+    ∷ (plainUnit 0x3D 0x03, (12288 ↤ (0x3D ∷ 0x13 ∷ [])) ∷ [])
+    ∷ (plainUnit 0x21 0x13, (12288 ↤ (0x81 ∷ 0x23 ∷ [])) ∷ [])
+    ∷ (plainUnit 0x3D 0x13, (12288 ↤ (0x9D ∷ 0x23 ∷ [])) ∷ [])
     ∷ []
 
 abbrev pub AdvancesStored : Type 0
-AdvancesStored = Table (λ u. advanced (unitOf u .model) u) advancedBorders
+AdvancesStored = Table (λ u. advanceMove (unitOf u .model) 12288 u) advancedBorders
 
 pub record Borders : Type 0 where
   pub header-read : HeaderRead

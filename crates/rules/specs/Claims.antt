@@ -1,9 +1,10 @@
 -- What is claimed of the rules beside demand 3. Theorems.antt says of which ciphers, states and commands. Assumes
 -- nothing.
-use Prim.Native.Nat.{ℕ, _+_, _-_, _*_, _/_, _%_, _≤_, _<_}
+use Prim.Native.Nat.{ℕ, _+_, _-_, _*_, _≤_, _<_}
 use mathlib.Core.Path.{_≡_}
 use mathlib.Core.Logic.{_≢_, _⊎_}
 use mathlib.Core.Bool.{Bool, true, false}
+use Rattle.rules.specs.declared.Stage.the-variants.{Zero, One, Two}
 use mathlib.Core.List.{List, [], _∷_}
 use mathlib.Core.Option.{none, some}
 use lib.ListN.{length, drop, replicate}
@@ -19,7 +20,7 @@ use Rattle.rules.specs.declared.Refusal.the-variants.{Unsound, Count, Ou
 use Rattle.rules.specs.declared.Stop.{Stop}
 use Rattle.rules.specs.Bytes.{byte, put, part}
 use Rattle.rules.specs.Map.{Row, row, rows, segments, publics, placeOf, flag, sound}
-use Rattle.rules.specs.Units.{unitBytes, unitOf, nameOf, bit}
+use Rattle.rules.specs.Units.{unitBytes, unitOf, nameOf, bit, modelNo, stageNo, modelOf}
 use Rattle.rules.specs.State.{Cipher, State}
 use Rattle.rules.specs.Answers.{numberOf, refusalOf, stopNumber, codeOf}
 use Rattle.rules.specs.Refusals.{Checks, granted, _when_else_}
@@ -57,6 +58,10 @@ NoSpare t = (a n : ℕ) → 1 ≤ n → placeOf t a n ≢ some Spare
 pub record Sizes (t : List ℕ) : Type 0 where
   pub smallest : 20480 ≤ length t
   pub largest : length t ≤ 1064960
+
+pub record SizesReached : Type 0 where
+  pub smallest : (t : List ℕ) × (sound t ≡ true) × (length t ≡ 20480)
+  pub largest : (t : List ℕ) × (sound t ≡ true) × (length t ≡ 1064960)
 
 -- "A tag is sound when its length is 4,096 x (4+A+P), A and P are in range, the flag is 0 or 1, the three zeros hold, and
 -- PIN 0 is all zeros."
@@ -159,7 +164,7 @@ unfoldable pub ownMove : Model → List ℕ → List ℕ
 ownMove Default u = []
 ownMove WriteOnce u = readOnly (byte 0 u) ∷ []
 ownMove Counter u = []
-ownMove (Receiver g) u = advanced (Receiver g) u
+ownMove (Receiver g) u = advanced g u
 ownMove (SharedKey Filling) u = inserted u
 ownMove (SharedKey Inserted) u = []
 
@@ -182,13 +187,20 @@ pub record LockedUnit (E : Cipher) (s : State) (k : ℕ) (c : Command) : Type 0 
 abbrev pub bits : ℕ → List Bool
 bits b = bit 7 b ∷ bit 6 b ∷ bit 5 b ∷ bit 4 b ∷ bit 3 b ∷ bit 2 b ∷ bit 1 b ∷ bit 0 b ∷ []
 
--- "clears WR and sets RD", where WR is set and RD clear, and leaves the other bits; a stage goes up by one, and its
--- model stays
-pub record MovesExact (b : ℕ) : Type 0 where
-  pub bits-moved : bit 7 b ≡ false → bit 5 b ≡ true
-      → bits (readOnly b) ≡ true ∷ bit 6 b ∷ false ∷ bit 4 b ∷ bit 3 b ∷ bit 2 b ∷ bit 1 b ∷ bit 0 b ∷ []
-  pub stage-up : (b + 16) / 16 ≡ b / 16 + 1
-  pub model-stays : (b + 16) % 16 ≡ b % 16
+-- RD set and WR cleared, and the other bits of b
+abbrev pub readOnlyBits : ℕ → List Bool
+readOnlyBits b = true ∷ bit 6 b ∷ false ∷ bit 4 b ∷ bit 3 b ∷ bit 2 b ∷ bit 1 b ∷ bit 0 b ∷ []
+
+-- the model and stage that a unit's second byte names
+abbrev pub named : List ℕ → Model
+named u = modelOf (modelNo u) (stageNo u)
+
+-- "clears WR and sets RD"; "stage 0 to 1, 1 to 2"; document 02, L4: "After insertion the segment is stage 1"
+pub record MovesExact : Type 0 where
+  pub bits-moved : (b : ℕ) → bits (readOnly b) ≡ readOnlyBits b
+  pub zero-to-one : (u : List ℕ) → named (advanced Zero u) ≡ Receiver One
+  pub one-to-two : (u : List ℕ) → named (advanced One u) ≡ Receiver Two
+  pub host-inserted : (u : List ℕ) → named (inserted u) ≡ SharedKey Inserted
 
 -- ---- "Power-up makes it all zeros."
 

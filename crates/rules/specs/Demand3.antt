@@ -1,11 +1,11 @@
--- Demand 3 as a statement, in the senses of document 01, "How tight the answers are": for lists of commands, and for
--- log runs. It is to hold for every cipher `E` and every state `s` whose tag is sound. Assumes nothing.
+-- Demand 3 as a statement, in the senses of document 01, "How tight the answers are", for lists of commands; Calls.antt
+-- and Runs.antt say it of calls and of runs over a log. It is to hold for every cipher `E` and every state `s` whose tag
+-- is sound. Assumes nothing.
 use Prim.Native.Nat.{ℕ, _+_, _≤_, _<_}
 use mathlib.Core.Path.{_≡_}
 use mathlib.Core.Logic.{_≢_}
 use mathlib.Core.Bool.{true, _&&_, cond}
 use mathlib.Core.List.{List, [], _∷_, _++_, List·Memᴰ}
-use mathlib.Core.Option.{none}
 use lib.ListN.{length}
 use lib.Dec.{eqb}
 use Rattle.rules.specs.declared.Model.the-variants.{Counter}
@@ -15,7 +15,6 @@ use Rattle.rules.specs.Units.{wellFormed, unitBytes, unitOf}
 use Rattle.rules.specs.State.{Cipher, State}
 use Rattle.rules.specs.Command.{Command, Reply, read, write, done, gives, refused, advance, insert, powerUp, after, reply}
 use Rattle.rules.specs.Run.{final, replies}
-use Rattle.rules.specs.Log.{runLog, encoded, encodedAll, commands}
 
 -- ---- counter segments and their slots
 
@@ -156,41 +155,3 @@ pub record Demand3 (E : Cipher) (s : State) : Type 0 where
   pub copies : (es : List Entry) → CopiesOfGranted E (s .tag) s [] es → CopiesRefused E s es
   pub neighbours : (before : List Command) (c d : Command) (later : List Command)
       → MayChangePlaces (final E s before .tag) c d → SameEitherWay E s before c d later
-
--- ---- "Of a log run, whose commands are the list and whose replies are the answers, it speaks only where no 15 or 16
--- stops the run, with or without the copies and in either order."
-
-abbrev pub Ends : Cipher → State → (log : List ℕ) (room : ℕ) → Type 0
-Ends E s log room = runLog E s log room .stop ≡ none
-
--- the run is that of the list: it reads the whole log, its output is the answers, and its end state is the list's
-abbrev pub IsList : Cipher → State → (log : List ℕ) (room : ℕ) → Type 0
-IsList E s log room =
-    (runLog E s log room .taken ≡ length log)
-    × (runLog E s log room .output ≡ encodedAll (replies E s (commands log)))
-    × (runLog E s log room .state ≡ final E s (commands log))
-
-pub record LogDemand3 (E : Cipher) (s : State) : Type 0 where
-  pub is-list : (log : List ℕ) (room : ℕ) → Ends E s log room → IsList E s log room
-  pub counting : (log : List ℕ) (room k j : ℕ) → Ends E s log room → LockedCounter (s .tag) k → j < 512
-      → valueAt (slot (s .tag) k j) (runLog E s log room .state .tag)
-      ≡ valueAt (slot (s .tag) k j) (s .tag)
-      + grants (slot (s .tag) k j) (commands log) (replies E s (commands log))
-  pub copies : (log more : List ℕ) (room room′ : ℕ) (es : List Entry) → Ends E s log room → Ends E s more room′
-      → commands log ≡ withoutCopies es → commands more ≡ withCopies es → CopiesOfGranted E (s .tag) s [] es
-      → (rs : List Reply) × (runLog E s more room′ .output ≡ encodedAll rs)
-      × AllRefused (copyReplies es rs)
-      × (runLog E s log room .output ≡ encodedAll (ownReplies es rs))
-      × (runLog E s more room′ .state ≡ runLog E s log room .state)
-  pub neighbours : (log other : List ℕ) (room room′ : ℕ) (before : List Command) (c d : Command) (later : List Command)
-      → Ends E s log room → Ends E s other room′
-      → commands log ≡ before ++ c ∷ d ∷ later → commands other ≡ before ++ d ∷ c ∷ later
-      → MayChangePlaces (final E s before .tag) c d
-      → (rest : List ℕ)
-      × (runLog E s log room .output
-      ≡ encodedAll (replies E s before)
-      ++ (encoded (reply E (final E s before) c) ++ (encoded (reply E (final E s before) d) ++ rest)))
-      × (runLog E s other room′ .output
-      ≡ encodedAll (replies E s before)
-      ++ (encoded (reply E (final E s before) d) ++ (encoded (reply E (final E s before) c) ++ rest)))
-      × (runLog E s log room .state ≡ runLog E s other room′ .state)

@@ -1,12 +1,13 @@
 -- Document 01, "What a command does": what a granted command changes, and 11; document 02, L4: what an insertion
 -- changes. Assumes nothing.
 -- The tag changes by stores, made one after another; the session by the functions of State.
-use Prim.Native.Nat.{ℕ, suc, _+_, _-_, _*_}
+use Prim.Native.Nat.{ℕ, suc, _+_, _-_, _*_, _/_, _%_}
 use mathlib.Core.Bool.{cond}
 use mathlib.Core.List.{List, [], _∷_, _++_}
 use lib.ListN.{length, replicate}
 use lib.Dec.{eqb}
 use Rattle.rules.specs.declared.Session.{Session}
+use Rattle.rules.specs.declared.Stage.{Stage}
 use Rattle.rules.specs.declared.Stage.the-variants.{Zero, One, Two}
 use Rattle.rules.specs.declared.Model.{Model}
 use Rattle.rules.specs.declared.Model.the-variants.{Default, WriteOnce, Counter, Receiver, SharedKey}
@@ -44,9 +45,9 @@ stored (Receiver One) old bs = xor bs old
 stored (Receiver Two) old bs = bs
 stored (SharedKey g) old bs = bs
 
--- WR cleared and RD set, in a control byte that has WR set and RD clear
+-- a control byte with RD set and WR cleared, the other bits as they were
 unfoldable pub readOnly : ℕ → ℕ
-readOnly b = b - 32 + 128
+readOnly b = 128 + 64 * (b / 64 % 2) + b % 32
 
 -- what a write then stores at its unit `u`, at address `at`
 unfoldable pub writeMove : Model → ℕ → List ℕ → List Store
@@ -56,19 +57,24 @@ writeMove Counter at u = []
 writeMove (Receiver g) at u = []
 writeMove (SharedKey g) at u = []
 
--- ---- "Advance: .. stage 0 to 1, 1 to 2 (RD set, WR cleared)": the two first bytes of the unit after it
+-- ---- "Advance (segment number): model 3 only, stage 0 to 1, 1 to 2 (RD set, WR cleared)": the two first bytes of the
+-- unit, by the stage that it leaves
 
-unfoldable pub advanced : Model → List ℕ → List ℕ
-advanced Default u = byte 0 u ∷ byte 1 u ∷ []
-advanced WriteOnce u = byte 0 u ∷ byte 1 u ∷ []
-advanced Counter u = byte 0 u ∷ byte 1 u ∷ []
-advanced (Receiver Zero) u = byte 0 u ∷ (byte 1 u + 16) ∷ []
-advanced (Receiver One) u = readOnly (byte 0 u) ∷ (byte 1 u + 16) ∷ []
-advanced (Receiver Two) u = byte 0 u ∷ byte 1 u ∷ []
-advanced (SharedKey g) u = byte 0 u ∷ byte 1 u ∷ []
+unfoldable pub advanced : Stage → List ℕ → List ℕ
+advanced Zero u = byte 0 u ∷ 0x13 ∷ []
+advanced One u = readOnly (byte 0 u) ∷ 0x23 ∷ []
+advanced Two u = byte 0 u ∷ byte 1 u ∷ []
+
+-- what an advance stores at the unit `u`, at address `at`
+unfoldable pub advanceMove : Model → ℕ → List ℕ → List Store
+advanceMove Default at u = []
+advanceMove WriteOnce at u = []
+advanceMove Counter at u = []
+advanceMove (Receiver g) at u = (at ↤ advanced g u) ∷ []
+advanceMove (SharedKey g) at u = []
 
 unfoldable pub advanceStores : List ℕ → ℕ → List Store
-advanceStores t k = (unitAt k ↤ advanced (unitOf (unitBytes t k) .model) (unitBytes t k)) ∷ []
+advanceStores t k = advanceMove (unitOf (unitBytes t k) .model) (unitAt k) (unitBytes t k)
 
 -- ---- document 02, L4, insertion of a host: "the tag, when it has x hosts, does this for i = 1 to x: the new id is XORed
 -- into slot x+1 of host i and id i into slot i of the new host; both masks are XORed into both keys; both masks become
@@ -97,7 +103,7 @@ joinStores A k x id i (h ∷ hs) t =
 
 -- "After insertion the segment is stage 1, RD only"
 unfoldable pub inserted : List ℕ → List ℕ
-inserted u = readOnly (byte 0 u) ∷ (byte 1 u + 16) ∷ []
+inserted u = readOnly (byte 0 u) ∷ 0x14 ∷ []
 
 -- "18 bytes a row, id first and segment number plus one after": row x
 unfoldable pub rowStore : (x k : ℕ) (id : List ℕ) → Store

@@ -46,17 +46,17 @@ pub data Got : Type 0 where
   answers : List Reply → Got
   ran : ℕ → List ℕ → Option ℕ → Got
 
-unfoldable pub got : Example → Got
-got (sends s cs rs) = answers (replies xorCipher s cs)
-got (runs room s log n out x) =
-    ran (runLog xorCipher s log room .taken) (runLog xorCipher s log room .output) (runLog xorCipher s log room .stop)
+unfoldable pub got : Cipher → Example → Got
+got E (sends s cs rs) = answers (replies E s cs)
+got E (runs room s log n out x) =
+    ran (runLog E s log room .taken) (runLog E s log room .output) (runLog E s log room .stop)
 
 unfoldable pub owed : Example → Got
 owed (sends s cs rs) = answers rs
 owed (runs room s log n out x) = ran n out x
 
-abbrev pub Hold : List Example → Type 0
-Hold es = map got es ≡ map owed es
+abbrev pub Hold : Cipher → List Example → Type 0
+Hold E es = map (got E) es ≡ map owed es
 
 unfoldable pub starred : List Example
 starred =

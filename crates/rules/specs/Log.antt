@@ -9,6 +9,12 @@ use Rattle.rules.specs.Bytes.{number, part}
 use Rattle.rules.specs.State.{State, Cipher}
 use Rattle.rules.specs.Command.{advance, insert, read, write, Command, powerUp, Reply, done, gives, refused, reply, after}
 
+-- ---- "11, 12, 13, 14 read 1, 8, 16, 32 bytes", "21, 22, 23, 24 write as many", "41 to 44 with the data": the count, by the
+-- last digit
+
+unfoldable pub countOf : ℕ → ℕ
+countOf digit = cond (eqb digit 1) 1 (cond (eqb digit 2) 8 (cond (eqb digit 3) 16 (cond (eqb digit 4) 32 0)))
+
 -- ---- "One byte of kind, then a body whose length the kind fixes"
 
 pub data Kind : Type 0 where
@@ -18,14 +24,14 @@ pub data Kind : Type 0 where
 unfoldable pub kinds : List (ℕ × Kind)
 kinds =
     (0x00, powers)
-    ∷ (0x11, reads 1)
-    ∷ (0x12, reads 8)
-    ∷ (0x13, reads 16)
-    ∷ (0x14, reads 32)
-    ∷ (0x21, writes 1)
-    ∷ (0x22, writes 8)
-    ∷ (0x23, writes 16)
-    ∷ (0x24, writes 32)
+    ∷ (0x11, reads (countOf 1))
+    ∷ (0x12, reads (countOf 2))
+    ∷ (0x13, reads (countOf 3))
+    ∷ (0x14, reads (countOf 4))
+    ∷ (0x21, writes (countOf 1))
+    ∷ (0x22, writes (countOf 2))
+    ∷ (0x23, writes (countOf 3))
+    ∷ (0x24, writes (countOf 4))
     ∷ (0x31, advances)
     ∷ (0x32, inserts)
     ∷ []
@@ -87,8 +93,12 @@ commands log = commandsOf (parsed 0 log)
 
 -- ---- "Replies: 41 to 44 with the data, 50 done, 51 and one number."
 
+-- the code of a granted read of n bytes, and the bytes that follow a reply's code
 unfoldable pub readCode : ℕ → ℕ
-readCode n = cond (eqb n 1) 0x41 (cond (eqb n 8) 0x42 (cond (eqb n 16) 0x43 0x44))
+readCode n = cond (eqb n (countOf 1)) 0x41 (cond (eqb n (countOf 2)) 0x42 (cond (eqb n (countOf 3)) 0x43 0x44))
+
+unfoldable pub dataLength : ℕ → ℕ
+dataLength code = cond (eqb code 0x51) 1 (countOf (code - 0x40))
 
 unfoldable pub encoded : Reply → List ℕ
 encoded done = 0x50 ∷ []

@@ -147,14 +147,11 @@ keepsModel u w =
     ∷ eqb (byte 1 u) (byte 1 w)
     ∷ [])
 
--- the edit that turns `u` into `w`; "if it becomes model 3, its stage is 0"; document 02, L4: "an edit's result holds it
--- only at stage 0"
-unfoldable pub editAllowed : List ℕ → List ℕ → Bool
-editAllowed u w =
-    all (
-    wellFormed w
-    ∷ cond (isReceiver (unitOf u .model)) (keepsModel u w) (not (pastStageZero (unitOf w .model)))
-    ∷ [])
+-- the edit that turns `u`, of model `m`, into `w`; "if it becomes model 3, its stage is 0"; document 02, L4: "an edit's
+-- result holds it only at stage 0"
+unfoldable pub editAllowed : Model → (u w : List ℕ) → Bool
+editAllowed m u w =
+    all (wellFormed w ∷ cond (isReceiver m) (keepsModel u w) (not (pastStageZero (unitOf w .model))) ∷ [])
 
 -- document 02, L4: "an edit of a listed segment's unit is refused 13"
 unfoldable pub editChecks : (edit : ℕ) (inList : Bool) (u w : List ℕ) → Checks
@@ -163,7 +160,7 @@ editChecks edit inList u w =
     6 when unitOf u .ne else
     7 when not (eqb edit (unitOf u .edit)) else
     13 when inList else
-    13 when not (editAllowed u w) else
+    13 when not (editAllowed (unitOf u .model) u w) else
     granted
 
 -- ---- "Advance (segment number): model 3 only, stage 0 to 1, 1 to 2 .. WRPIN and PN are checked as for a write, nE
@@ -241,51 +238,50 @@ insertChecks write name t k id =
     19 when listRefuses t k id (hosts t) else
     granted
 
--- ---- registers
-
--- "ID and PA registers: store 16 bytes in the session, no flag."
-unfoldable pub plainChecks : List ℕ → Checks
-plainChecks bs =
-    9 when not (eqb (length bs) 16) else
-    granted
+-- ---- registers: a write of `bs` to one, with the PIN index `i` that PA names
 
 -- "READ, WRITE, EDIT: flag must be 0 .. If the 16 bytes equal E_PIN(counter) for the PIN that PA names"
-unfoldable pub responseChecks : Cipher → State → List ℕ → Checks
-responseChecks E s bs =
-    9 when not (eqb (length bs) 16) else
-    9 when not (leb (pinIndex (s .session)) 255) else
-    10 when eqb (flag (s .tag)) 1 else
-    11 when not (same bs (response E (pin (s .tag) (pinIndex (s .session))) (s .tag))) else
+unfoldable pub responseChecks : Cipher → (t : List ℕ) (i : ℕ) (bs : List ℕ) → Checks
+responseChecks E t i bs =
+    9 when not (leb i 255) else
+    10 when eqb (flag t) 1 else
+    11 when not (same bs (response E (pin t i) t)) else
     granted
 
 -- "NAME: same flag rule"
-unfoldable pub nameChecks : State → List ℕ → Checks
-nameChecks s bs =
-    9 when not (eqb (length bs) 16) else
-    9 when not (leb (pinIndex (s .session)) 255) else
-    10 when eqb (flag (s .tag)) 1 else
+unfoldable pub nameChecks : (t : List ℕ) (i : ℕ) → Checks
+nameChecks t i =
+    9 when not (leb i 255) else
+    10 when eqb (flag t) 1 else
     granted
 
 -- "COMMIT: same flag rule; let K be the owner PIN. The guard must equal bytes 4 to 15 of E_K applied to the 16
--- written bytes"
-unfoldable pub commitChecks : Cipher → State → List ℕ → Checks
-commitChecks E s bs =
-    9 when not (eqb (length bs) 16) else
-    9 when not (leb (pinIndex (s .session)) 255) else
-    9 when eqb (pinIndex (s .session)) 0 else
-    9 when not (leb (ownerIndex (s .session)) 3) else
-    10 when eqb (flag (s .tag)) 1 else
-    11 when not (same (guard (s .session)) (part 4 12 (E (owner (s .tag) (ownerIndex (s .session))) bs))) else
+-- written bytes": owner index `o` and guard `g` are PA's
+unfoldable pub commitChecks : Cipher → (t : List ℕ) (i o : ℕ) (g bs : List ℕ) → Checks
+commitChecks E t i o g bs =
+    9 when not (leb i 255) else
+    9 when eqb i 0 else
+    9 when not (leb o 3) else
+    10 when eqb (flag t) 1 else
+    11 when not (same g (part 4 12 (E (owner t o) bs))) else
     granted
 
+-- by register; "ID and PA registers: store 16 bytes in the session, no flag."
+unfoldable pub blockChecks : Cipher → State → Register → List ℕ → Checks
+blockChecks E s Read bs = responseChecks E (s .tag) (pinIndex (s .session)) bs
+blockChecks E s Write bs = responseChecks E (s .tag) (pinIndex (s .session)) bs
+blockChecks E s Edit bs = responseChecks E (s .tag) (pinIndex (s .session)) bs
+blockChecks E s Name bs = nameChecks (s .tag) (pinIndex (s .session))
+blockChecks E s Id bs = granted
+blockChecks E s Commit bs =
+    commitChecks E (s .tag) (pinIndex (s .session)) (ownerIndex (s .session)) (guard (s .session)) bs
+blockChecks E s Pa bs = granted
+
+-- "9: register write not 16 bytes"
 unfoldable pub registerChecks : Cipher → State → Register → List ℕ → Checks
-registerChecks E s Read bs = responseChecks E s bs
-registerChecks E s Write bs = responseChecks E s bs
-registerChecks E s Edit bs = responseChecks E s bs
-registerChecks E s Name bs = nameChecks s bs
-registerChecks E s Id bs = plainChecks bs
-registerChecks E s Commit bs = commitChecks E s bs
-registerChecks E s Pa bs = plainChecks bs
+registerChecks E s r bs =
+    9 when not (eqb (length bs) 16) else
+    blockChecks E s r bs
 
 -- ---- by place: a read of the `n` bytes at `a`, and a write of `bs` at `a`
 

@@ -17,7 +17,7 @@ use Rattle.rules.specs.Answers.{stopNumber}
 use Rattle.rules.specs.State.{Cipher, State, state}
 use Rattle.rules.specs.Command.{Command, Reply, done, gives, refused}
 use Rattle.rules.specs.Run.{final, replies}
-use Rattle.rules.specs.Log.{Ran, onward, runLog, commands}
+use Rattle.rules.specs.Log.{Ran, onward, runLog, commands, dataLength}
 use Rattle.rules.specs.Demand3.{LockedCounter, slot, valueAt, grants, Entry, withCopies, withoutCopies, ownReplies, copyReplies, AllRefused, CopiesOfGranted, MayChangePlaces}
 
 -- ---- the contract
@@ -90,15 +90,6 @@ pub record RunsContinue (E : Cipher) (s : State) : Type 0 where
       → 1 ≤ runLog E s log room .taken
 
 -- ---- the answers that stand in an output, read back: "41 to 44 with the data, 50 done, 51 and one number"
-
--- the bytes that follow a reply's code
-unfoldable pub dataLength : ℕ → ℕ
-dataLength code =
-    cond (eqb code 0x41) 1
-    (cond (eqb code 0x42) 8
-    (cond (eqb code 0x43) 16
-    (cond (eqb code 0x44) 32
-    (cond (eqb code 0x51) 1 0))))
 
 unfoldable pub answerAt : (code : ℕ) → List ℕ → Reply
 answerAt code bs =

@@ -9,14 +9,14 @@ use Rattle.rules.specs.declared.KeyStage.the-variants.{Inserted}
 use Rattle.rules.specs.declared.Model.the-variants.{SharedKey}
 use Rattle.rules.specs.Bytes.{byte, part, xor, Apart}
 use Rattle.rules.specs.Map.{segments, segmentAt, unitAt}
-use Rattle.rules.specs.Units.{bit, wellFormed, unitBytes, unitOf}
+use Rattle.rules.specs.Units.{wellFormed, unitBytes, unitOf}
 use Rattle.rules.specs.Hosts.{Host, hosts, hostAt, readers, readersAt, listed, hostSlotAt, slotId, slotKey, slotMask}
 use Rattle.rules.specs.State.{Cipher, State}
 use Rattle.rules.specs.Refusals.{isSharedKey}
 use Rattle.rules.specs.Effects.{slotIn}
 use Rattle.rules.specs.Command.{Command, read, insert, reply, gives, after}
 use Rattle.rules.specs.Run.{final}
-use Rattle.rules.specs.Claims.{bits, MayRead}
+use Rattle.rules.specs.Claims.{bits, readOnlyBits, MayRead}
 
 -- row i of the list
 abbrev pub row : List ℕ → ℕ → Host
@@ -83,9 +83,7 @@ pub record ListGrows (t u : List ℕ) (k : ℕ) (id : List ℕ) : Type 0 where
 pub record UnitInserted (u w : List ℕ) : Type 0 where
   pub formed : wellFormed w ≡ true
   pub stage : unitOf w .model ≡ SharedKey Inserted
-  pub control : bits (byte 0 w)
-      ≡ true ∷ bit 6 (byte 0 u) ∷ false ∷ bit 4 (byte 0 u) ∷ bit 3 (byte 0 u) ∷ bit 2 (byte 0 u) ∷ bit 1 (byte 0 u)
-      ∷ bit 0 (byte 0 u) ∷ []
+  pub control : bits (byte 0 w) ≡ readOnlyBits (byte 0 u)
   pub stage-byte : byte 1 w ≡ 0x14
   pub other-bytes : part 2 30 w ≡ part 2 30 u
 

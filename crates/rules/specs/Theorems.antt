@@ -12,24 +12,23 @@ use Rattle.rules.specs.Map.{sound, segments, placeOf}
 use Rattle.rules.specs.Units.{unitOf, unitBytes}
 use Rattle.rules.specs.State.{Cipher, State}
 use Rattle.rules.specs.Command.{Command, read, insert, refusal, after}
-use Rattle.rules.specs.Demand3.{LockedCounter, Demand3, LogDemand3}
+use Rattle.rules.specs.Demand3.{LockedCounter, Demand3}
 use Rattle.rules.specs.Calls.{CallsFollow, CallsDemand3, RefusedLeaves, RefusedReads}
 use Rattle.rules.specs.Runs.{RunsDemand3, RunsLeave, RunsContinue}
 use Rattle.rules.specs.CCalls.{CalledIsCall, RunCalledIsRun, NothingLost, SessionFits}
-use Rattle.rules.specs.Claims.{LowestGiven, RefusalNamed, AnswersTold, RefusedChangesNothing, TheMap, NoSpare, Sizes, SoundIs, SoundStays, LockedUnit, MovesExact, PowerUpClears, OneAnswerEach, LogIsItsCommands}
+use Rattle.rules.specs.Claims.{LowestGiven, RefusalNamed, AnswersTold, RefusedChangesNothing, TheMap, NoSpare, Sizes, SizesReached, SoundIs, SoundStays, LockedUnit, MovesExact, PowerUpClears, OneAnswerEach, LogIsItsCommands}
 use Rattle.rules.specs.Repeats.{RepeatTold, NeverBoth, CopyTold}
 use Rattle.rules.specs.Refusals.{isSharedKey}
 use Rattle.rules.specs.SharedKeys.{ReadsListed, InsertionLeaves, ListGrows, UnitInserted, KeysShared, KeysRead}
 use Rattle.rules.specs.FourCommands.{HostReads}
-use Rattle.rules.specs.Examples.{starred, insertions, Hold, stages, errors, NotEmpty, RepeatsChange}
+use Rattle.rules.specs.Examples.{starred, insertions, Hold, stages, errors, xorCipher, NotEmpty, RepeatsChange}
 use Rattle.rules.specs.Readings.{readings}
 use Rattle.rules.specs.Borders.{Borders}
 use Rattle.rules.specs.CommandBorders.{CommandBorders}
 
 pub record Theorems : Type 0 where
-  -- demand 3, for lists of commands and for log runs
+  -- demand 3, for lists of commands
   pub demand-3 : (E : Cipher) (s : State) → sound (s .tag) ≡ true → Demand3 E s
-  pub log-demand-3 : (E : Cipher) (s : State) → sound (s .tag) ≡ true → LogDemand3 E s
   -- the same of calls of functions that carry commands out, and what a refused call leaves
   pub calls-follow : (E : Cipher) → CallsFollow E
   pub calls-demand-3 : (E : Cipher) (s : State) → sound (s .tag) ≡ true → CallsDemand3 E s
@@ -60,10 +59,11 @@ pub record Theorems : Type 0 where
   pub no-spare : (t : List ℕ) → sound t ≡ true → segments t ≡ 128 → NoSpare t
   pub sound-is : (t : List ℕ) → SoundIs t
   pub sizes : (t : List ℕ) → sound t ≡ true → Sizes t
+  pub sizes-reached : SizesReached
   pub sound-stays : (E : Cipher) (s : State) (c : Command) → sound (s .tag) ≡ true → SoundStays E s c
   pub locked-unit : (E : Cipher) (s : State) (k : ℕ) (c : Command) → sound (s .tag) ≡ true → k < segments (s .tag)
       → unitOf (unitBytes (s .tag) k) .ne ≡ true → LockedUnit E s k c
-  pub moves-exact : (b : ℕ) → MovesExact b
+  pub moves-exact : MovesExact
   -- insertions of hosts (document 02, L4)
   pub reads-listed : (E : Cipher) (s : State) (k a n room : ℕ) → refusal E s (read a n room) ≡ none
       → placeOf (s .tag) a n ≡ some (Segment k) → isSharedKey (unitOf (unitBytes (s .tag) k) .model) ≡ true
@@ -83,11 +83,11 @@ pub record Theorems : Type 0 where
   pub one-answer-each : (E : Cipher) (s : State) (cs : List Command) → OneAnswerEach E s cs
   pub log-is-its-commands : (E : Cipher) (s : State) (room : ℕ) → LogIsItsCommands E s room
   -- examples
-  pub starred-hold : Hold starred
-  pub stages-hold : Hold stages
-  pub errors-shown : Hold errors
-  pub insertions-hold : Hold insertions
-  pub readings-hold : Hold readings
+  pub starred-hold : (E : Cipher) → Hold E starred
+  pub stages-hold : Hold xorCipher stages
+  pub errors-shown : Hold xorCipher errors
+  pub insertions-hold : Hold xorCipher insertions
+  pub readings-hold : Hold xorCipher readings
   pub borders : Borders
   pub command-borders : CommandBorders
   pub not-empty : NotEmpty

@@ -84,6 +84,10 @@ modelFits (suc (suc (suc zero))) g rd wr = leb g 1 && not rd && wr || eqb g 2 &&
 modelFits (suc (suc (suc (suc zero)))) g rd wr = eqb g 0 && not rd && wr || eqb g 1 && rd && not wr
 modelFits (suc (suc (suc (suc (suc n))))) g rd wr = false
 
+-- "With M clear byte 1 is ignored"
+abbrev pub modelFormed : List ℕ → Bool
+modelFormed u = not (modelled u) || modelFits (modelNo u) (stageNo u) (unitOf u .rd) (unitOf u .wr)
+
 -- "Well formed: RFU and the zero bytes are 0; indexes at most 255; .."
 unfoldable pub formedness : List ℕ → List Bool
 formedness u =
@@ -93,7 +97,7 @@ formedness u =
     ∷ leb (number (part 6 2 u)) 255
     ∷ leb (number (part 8 2 u)) 255
     ∷ zeros (part 10 6 u)
-    ∷ (not (modelled u) || modelFits (modelNo u) (stageNo u) (unitOf u .rd) (unitOf u .wr))
+    ∷ modelFormed u
     ∷ []
 
 unfoldable pub wellFormed : List ℕ → Bool

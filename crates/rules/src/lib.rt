@@ -1,14 +1,16 @@
 //! The types that the rules (specs/) and the tag's code share, each declared once. specs/Answers.antt gives the numbers that
 //! document 01 has for the cases of the answers.
 
-/// "The session is kept by value beside the memory": three validated indexes, and the name, ID and PA arrays.
+/// "The session is kept by value beside the memory": three validated indexes, and the name, ID and PA arrays. The arrays
+/// stand first, so that a copy of 16 bytes at a time meets each as it was stored: a processor waits where one load spans
+/// two stores that were just made.
 pub struct Session {
-    pub read: usize,
-    pub write: usize,
-    pub edit: usize,
     pub name: [u8; 16],
     pub id: [u8; 16],
     pub pa: [u8; 16],
+    pub read: usize,
+    pub write: usize,
+    pub edit: usize,
 }
 
 /// The stages of model 3.
@@ -71,7 +73,7 @@ pub enum Place {
     Public(usize),
 }
 
-/// The refusals 1 to 16, 18 and 19, in the order of their numbers; 17 is the cipher's.
+/// The refusals 1 to 15, 18 and 19, in the order of their numbers; 16 is a run's stop and 17 the cipher's.
 pub enum Refusal {
     Unsound,
     Count,
@@ -88,7 +90,6 @@ pub enum Refusal {
     BadEdit,
     OtherModel,
     Unreadable,
-    NoRoom,
     Repeated,
     BadInsertion,
 }
@@ -99,10 +100,10 @@ pub enum Answer {
     Refused(Refusal),
 }
 
-/// A command's answer, and the session after it.
+/// A command's answer, and the session after it, which stands first for the same reason.
 pub struct Outcome {
-    pub answer: Answer,
     pub session: Session,
+    pub answer: Answer,
 }
 
 /// What ends a run over a log: its end, a 15 or a 16.
