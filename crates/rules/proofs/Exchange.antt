@@ -13,7 +13,7 @@ use Rattle.rules.specs.declared.Model.the-variants.{WriteOnce, Counter}
 use Rattle.rules.specs.declared.Place.{Place}
 use Rattle.rules.specs.declared.Place.the-variants.{Segment, UnitOf, Public}
 use Rattle.rules.specs.Bytes.{put, part, Apart}
-use Rattle.rules.specs.Map.{sound, segments, publics, placeOf, unitAt, segmentAt}
+use Rattle.rules.specs.Map.{sound, segments, publics, placeOf, unitAt, segmentAt, readersAt}
 use Rattle.rules.specs.Units.{unitBytes, unitOf}
 use Rattle.rules.specs.Hosts.{hosts, readers}
 use Rattle.rules.specs.State.{Cipher, State}
@@ -49,7 +49,7 @@ record Looks (t u : List ℕ) (p : Place) (a n : ℕ) : Type 0 where
   same-segments : segments u ≡ segments t
   same-publics : publics u ≡ publics t
   same-part : part a n u ≡ part a n t
-  same-readers : part 8192 4096 u ≡ part 8192 4096 t
+  same-readers : part readersAt 4096 u ≡ part readersAt 4096 t
   same-unit : (k : ℕ) → p ≡ Segment k → unitBytes u k ≡ unitBytes t k
 
 module _ (E : Cipher) (v : Session) (t u : List ℕ) (k a n : ℕ) (p : Place) (num : Numbered (segments t) (publics t) k p)

@@ -15,7 +15,7 @@ use Rattle.rules.specs.declared.Model.the-variants.{SharedKey}
 use Rattle.rules.specs.declared.Place.{Place}
 use Rattle.rules.specs.declared.Place.the-variants.{Segment, UnitOf}
 use Rattle.rules.specs.Bytes.{part, Apart}
-use Rattle.rules.specs.Map.{segmentAt, segments, sound, unitAt}
+use Rattle.rules.specs.Map.{segmentAt, segments, sound, unitAt, readersAt}
 use Rattle.rules.specs.Units.{unitBytes, unitOf, wellFormed}
 use Rattle.rules.specs.Hosts.{Host, hosts, readers, listed, readable, hostSlotAt}
 use Rattle.rules.specs.State.{Cipher, State}
@@ -153,7 +153,7 @@ module _ (E : Cipher) (s : State) (l p j : ℕ) (w : sound (s .tag) ≡ true) (u
 -- ---- so both stay
 
 same-rows : (E : Cipher) (s : State) (c : Command) (p : ℕ) → p < length (hosts (s .tag))
-    → part 8192 4096 (after E s c .tag) ≡ part 8192 4096 (s .tag)
+    → part readersAt 4096 (after E s c .tag) ≡ part readersAt 4096 (s .tag)
     → (p < length (hosts (after E s c .tag))) × (row (after E s c .tag) p ≡ row (s .tag) p)
 unfolding hosts readers
 same-rows E s c p l e = (rw e l, rw e)

@@ -19,9 +19,9 @@ use Rattle.rules.specs.declared.Register.the-variants.{Write, Read, Edit
 use Rattle.rules.specs.declared.Place.{Place}
 use Rattle.rules.specs.declared.Place.the-variants.{Segment, RegisterOf, Header, Hidden, Pins, Readers, UnitOf, Spare, Public}
 use Rattle.rules.specs.Bytes.{part, put, number, bytesOf, Apart}
-use Rattle.rules.specs.Map.{pinAt, unitAt, segmentAt, segmentsAt, sound, segments, publics}
+use Rattle.rules.specs.Map.{pinAt, unitAt, segmentAt, segmentsAt, sound, segments, publics, readersAt}
 use Rattle.rules.specs.Units.{unitOf, unitBytes}
-use Rattle.rules.specs.Hosts.{Host, hosts, hostSlotAt}
+use Rattle.rules.specs.Hosts.{Host, hosts, hostSlotAt, rowAt}
 use Rattle.rules.specs.State.{Cipher, State, pinIndex}
 use Rattle.rules.specs.Refusals.{lowest, registerChecks, writeChecks, isSharedKey}
 use Rattle.rules.specs.Effects.{Store, _↤_, registerStores, stored, writeMove, writeStores, advanced, advanceMove, advanceStores, pairStores, joinStores, inserted, rowStore, insertStores, refusalStores, setFlag, apply}
@@ -48,7 +48,7 @@ pub data LawfulAt (t : List ℕ) (p : Place) (a n x : ℕ) (ys : List ℕ) : Typ
   to-bytes : unitAt 0 ≤ a → x ≡ a → length ys ≡ n → LawfulAt t p a n x ys
   to-unit : (k : ℕ) → p ≡ Segment k → unitOf (unitBytes t k) .model ≡ WriteOnce → x ≡ unitAt k → length ys ≡ 1
       → LawfulAt t p a n x ys
-  to-list : sort p ≡ 4 → 8192 ≤ x → x + length ys ≤ unitAt 0 → LawfulAt t p a n x ys
+  to-list : sort p ≡ 4 → readersAt ≤ x → x + length ys ≤ unitAt 0 → LawfulAt t p a n x ys
   to-host : sort p ≡ 4 → unitAt 0 ≤ x → (k : ℕ) → HostOf t k → segmentAt (segments t) k ≤ x
       → x + length ys ≤ segmentAt (segments t) k + 4096 → LawfulAt t p a n x ys
 
@@ -164,7 +164,7 @@ pairs-lawful t k id a n w f =
 
 -- its row ends before the units
 pub row-end : (t : List ℕ) (k : ℕ) (id : List ℕ) → Inserting t k id
-    → 8192 + 18 * length (hosts t) + length (id ++ bytesOf 2 (k + 1)) ≤ unitAt 0
+    → readersAt + rowAt (length (hosts t)) + length (id ++ bytesOf 2 (k + 1)) ≤ unitAt 0
 row-end t k id f =
     let b = f .few in
     let c = f .long in
@@ -247,7 +247,7 @@ made E s powerUp none w e =
 -- ---- so they leave what no command may write, and keep the tag sound
 
 lawful-apart : (t : List ℕ) (p : Place) (a n x : ℕ) (ys : List ℕ) → LawfulAt t p a n x ys
-    → Apart x (length ys) 0 4 × Apart x (length ys) 16 4096 × (sort p ≢ 4 → Apart x (length ys) 8192 4096)
+    → Apart x (length ys) 0 4 × Apart x (length ys) 16 4096 × (sort p ≢ 4 → Apart x (length ys) readersAt 4096)
 lawful-apart t p a n x ys (to-counter o e h) = (omega arith, omega arith, λ d. omega arith)
 lawful-apart t p a n x ys (to-flag o v h e f) = let l = ap length f in (omega arith, omega arith, λ d. omega arith)
 lawful-apart t p a n x ys (to-pin o i l m e h) = (omega arith, omega arith, λ d. omega arith)
@@ -299,7 +299,7 @@ sound-stays E s c w =
       same-publics =
           ap number (kept-part E s c 2 2 w (λ p a n x ys o l i b d e f. lawful-apart (s .tag) p a n x ys l .0 i b d (omega arith) f));
       low-stays = kept-part E s c 16 4096 w (λ p a n x ys o l. lawful-apart (s .tag) p a n x ys l .1);
-      readers-stay = λ z. kept-part E s c 8192 4096 w (λ p a n x ys o l. lawful-apart (s .tag) p a n x ys l .2 (o z));
+      readers-stay = λ z. kept-part E s c readersAt 4096 w (λ p a n x ys o l. lawful-apart (s .tag) p a n x ys l .2 (o z));
     }
 
 -- they leave a part above the header and the PINs if the written bytes, in a segment the byte of its unit, and for an

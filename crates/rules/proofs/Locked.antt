@@ -13,9 +13,9 @@ use Rattle.rules.specs.declared.Model.the-variants.{Default, WriteOnce, 
 use Rattle.rules.specs.declared.Place.{Place}
 use Rattle.rules.specs.declared.Place.the-variants.{Segment, UnitOf}
 use Rattle.rules.specs.Bytes.{put, part, byte, bytesOf, Apart}
-use Rattle.rules.specs.Map.{unitAt, sound, segments, placeOf}
+use Rattle.rules.specs.Map.{unitAt, sound, segments, placeOf, readersAt}
 use Rattle.rules.specs.Units.{unitOf, unitBytes}
-use Rattle.rules.specs.Hosts.{hosts}
+use Rattle.rules.specs.Hosts.{hosts, rowAt}
 use Rattle.rules.specs.State.{Cipher, State}
 use Rattle.rules.specs.Refusals.{canAdvance, lowest, writeChecks}
 use Rattle.rules.specs.Effects.{Store, apply, _↤_, writeMove, readOnly, advanceStores, advanceMove, advanced, rowStore, inserted, insertStores, writeStores}
@@ -76,13 +76,13 @@ unit-inserted t k id w f =
     ∙ part-put-start (unitAt k) 32 (inserted (part (unitAt k) 32 t)) _
     ∙ ap (put 0 (inserted (part (unitAt k) 32 t))) before
   where
-    before : part (unitAt k) 32 (put (8192 + 18 * length (hosts t)) (id ++ bytesOf 2 (k + 1)) (apply (pairsOf t k id) t))
+    before : part (unitAt k) 32 (put (readersAt + rowAt (length (hosts t))) (id ++ bytesOf 2 (k + 1)) (apply (pairsOf t k id) t))
         ≡ part (unitAt k) 32 t
     before =
         let e = row-end t k id f in
         let g = sound-long t w .0 in
         let h = f .there in
-        part-put (unitAt k) 32 (8192 + 18 * length (hosts t)) (id ++ bytesOf 2 (k + 1)) (apply (pairsOf t k id) t) (omega arith)
+        part-put (unitAt k) 32 (readersAt + rowAt (length (hosts t))) (id ++ bytesOf 2 (k + 1)) (apply (pairsOf t k id) t) (omega arith)
         ∙ apply-part (unitAt k) 32 (pairsOf t k id) t (pairs-off t k id (unitAt k) 32 w f (omega arith) (λ l x. omega arith))
 
 insert-moves : (M : Type 0) → M → (t : List ℕ) (k : ℕ) (id : List ℕ) → sound t ≡ true → Inserting t k id

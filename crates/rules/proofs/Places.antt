@@ -14,7 +14,7 @@ use borrow.Author.Tests.{leb-true, leb-false, ltb-true, ltb-false, le-leb, lt-lt
 use Rattle.rules.specs.Bytes.{Apart}
 use Rattle.rules.specs.declared.Place.{Place}
 use Rattle.rules.specs.declared.Place.the-variants.{Header, Hidden, RegisterOf, Pins, Readers, UnitOf, Spare, Segment, Public}
-use Rattle.rules.specs.Map.{Row, row, liesIn, find, rows, most, segmentAt, unitAt, segmentsAt, segments, placeOf, publics, sound, registerNo, registerAt, pinAt}
+use Rattle.rules.specs.Map.{Row, row, liesIn, find, rows, most, segmentAt, unitAt, segmentsAt, segments, placeOf, publics, sound, registerNo, registerAt, pinAt, readersAt}
 use Rattle.rules.specs.Claims.{Within, Holds, TheMap, NoSpare}
 use Rattle.rules.proofs.Tests.{and-true, some-none, same-some}
 use Rattle.rules.proofs.MapLaws.{units-fit, sound-facts, units-fill, segments-aligned, spare-short}
@@ -227,8 +227,8 @@ Extent A P Header a n = a + n ≤ 16
 Extent A P Hidden a n = (16 ≤ a) × (a + n ≤ registerAt 0)
 Extent A P (RegisterOf r) a n =
     (i : ℕ) × (r ≡ registerNo i) × (i < 7) × (registerAt i ≤ a) × (a + n ≤ registerAt i + 16)
-Extent A P Pins a n = (pinAt 0 ≤ a) × (a + n ≤ 8192)
-Extent A P Readers a n = (8192 ≤ a) × (a + n ≤ unitAt 0)
+Extent A P Pins a n = (pinAt 0 ≤ a) × (a + n ≤ readersAt)
+Extent A P Readers a n = (readersAt ≤ a) × (a + n ≤ unitAt 0)
 Extent A P (UnitOf k) a n = (k < A) × (unitAt k ≤ a) × (a + n ≤ unitAt k + 32)
 Extent A P Spare a n = (unitAt A ≤ a) × (a + n ≤ segmentsAt A)
 Extent A P (Segment k) a n = (k < A) × (segmentAt A k ≤ a) × (a + n ≤ segmentAt A k + 4096)

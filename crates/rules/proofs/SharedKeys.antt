@@ -9,9 +9,9 @@ use native.Mathlib.Omega.{arith}
 use lib.ListN.{length, length-append}
 use borrow.Author.Tests.{eqb-false, not-false}
 use Rattle.rules.specs.Bytes.{number, part, put, bytesOf, Apart}
-use Rattle.rules.specs.Map.{most, segments, sound, segmentAt, segmentsAt, unitAt}
+use Rattle.rules.specs.Map.{most, segments, sound, segmentAt, segmentsAt, unitAt, readersAt}
 use Rattle.rules.specs.Units.{unitBytes, unitOf}
-use Rattle.rules.specs.Hosts.{hosts, hostAt, mostHosts, readers}
+use Rattle.rules.specs.Hosts.{hosts, hostAt, mostHosts, readers, rowAt}
 use Rattle.rules.specs.State.{Cipher, State}
 use Rattle.rules.specs.Refusals.{isSharedKey}
 use Rattle.rules.specs.Effects.{apply, slotIn, rowStore, inserted, insertStores}
@@ -45,7 +45,7 @@ module _ (t : List ℕ) (k : ℕ) (id : List ℕ) (w : sound t ≡ true) (f : In
   unfolding readers
   readers-long =
       let g = sound-long t w in
-      length-part 8192 4096 t ∙ omega (arith, g .0, g .1)
+      length-part readersAt 4096 t ∙ omega (arith, g .0, g .1)
 
   beside : (i : ℕ) → i < x → Beside A k (length t) (row t i)
   beside i l =
@@ -76,7 +76,7 @@ module _ (t : List ℕ) (k : ℕ) (id : List ℕ) (w : sound t ≡ true) (f : In
       let l = f .there in
       ap (slotIn a) (apply-append (pairsOf t k id) _ t)
       ∙ part-put a 48 (unitAt k) _ _ (omega arith)
-      ∙ part-put a 48 (8192 + 18 * x) (id ++ bytesOf 2 (k + 1)) _ (omega arith)
+      ∙ part-put a 48 (readersAt + rowAt x) (id ++ bytesOf 2 (k + 1)) _ (omega arith)
 
   pub insert-paired : (i : ℕ) → i < x → PairOf t u k id i
   insert-paired i l =
@@ -108,11 +108,11 @@ module _ (t : List ℕ) (k : ℕ) (id : List ℕ) (w : sound t ≡ true) (f : In
   readers-after =
       let few = f .few in
       let g = sound-long t w .0 in
-      ap (part 8192 4096) (apply-append (pairsOf t k id) _ t)
-      ∙ part-put 8192 4096 (unitAt k) _ _ (omega arith)
-      ∙ part-put-inside 8192 4096 (18 * x) (id ++ bytesOf 2 (k + 1)) (apply (pairsOf t k id) t)
-      ∙ ap (put (18 * x) (id ++ bytesOf 2 (k + 1))) (apply-part 8192 4096 (pairsOf t k id) t
-      (joins-off A k x (length t) id few own-end (f .long) 0 (hosts t) t 8192 4096
+      ap (part readersAt 4096) (apply-append (pairsOf t k id) _ t)
+      ∙ part-put readersAt 4096 (unitAt k) _ _ (omega arith)
+      ∙ part-put-inside readersAt 4096 (18 * x) (id ++ bytesOf 2 (k + 1)) (apply (pairsOf t k id) t)
+      ∙ ap (put (18 * x) (id ++ bytesOf 2 (k + 1))) (apply-part readersAt 4096 (pairsOf t k id) t
+      (joins-off A k x (length t) id few own-end (f .long) 0 (hosts t) t readersAt 4096
       (each-host _ _ (hosts t) (λ h b. omega arith) all-beside) (λ j y z. omega arith)))
 
   row-stays : (i : ℕ) → i < x → row u i ≡ row t i
@@ -200,7 +200,7 @@ module _ (E : Cipher) (s : State) (k : ℕ) (id : List ℕ) (e : refusal E s (in
       record {
         elsewhere = elsewhere;
         before-list =
-            elsewhere 0 8192
+            elsewhere 0 readersAt
             (record { off-row = omega arith; off-unit = omega arith; off-their-slots = λ i l. omega arith; off-own-slots = λ i l. omega arith });
         other-models = λ l b m.
             above-list (segmentAt (segments (s .tag)) l) 4096 (omega arith) (omega arith)

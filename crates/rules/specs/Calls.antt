@@ -12,6 +12,7 @@ use Rattle.rules.specs.declared.Refusal.the-variants.{WrongResponse}
 use Rattle.rules.specs.declared.Outcome.{Outcome}
 use Rattle.rules.specs.declared.Session.{Session}
 use Rattle.rules.specs.Bytes.{part, put}
+use Rattle.rules.specs.Map.{flagAt}
 use Rattle.rules.specs.State.{Cipher, State, state, poweredUp}
 use Rattle.rules.specs.Answers.{numberOf, refusalOf}
 use Rattle.rules.specs.Command.{Command, Reply, done, gives, refused, read, write, advance, insert, powerUp, refusal, reply, after, filled}
@@ -33,7 +34,7 @@ pub record CarriedOut (E : Cipher) (s : State) (c : Command) (t : List ℕ) (o :
 pub record RefusedCall (s : State) (r : Refusal) (t : List ℕ) (o : Outcome) : Type 0 where
   pub same-session : o .session ≡ s .session
   pub same-tag : r ≢ WrongResponse → t ≡ s .tag
-  pub flag-set : r ≡ WrongResponse → t ≡ put 12 (1 ∷ []) (s .tag)
+  pub flag-set : r ≡ WrongResponse → t ≡ put flagAt (1 ∷ []) (s .tag)
 
 abbrev pub RefusedLeaves : Cipher → Type 0
 RefusedLeaves E =

@@ -19,7 +19,7 @@ use Rattle.rules.specs.declared.Refusal.{Refusal}
 use Rattle.rules.specs.declared.Refusal.the-variants.{Unsound, Count, Outside, NeverTaken, Malformed, Forbidden, OtherPin, OtherName, BadRegister, FlagUsed, WrongResponse, NotNext, BadEdit, OtherModel, Repeated, BadInsertion}
 use Rattle.rules.specs.declared.Stop.{Stop}
 use Rattle.rules.specs.Bytes.{byte, put, part}
-use Rattle.rules.specs.Map.{Row, row, rows, segments, publics, placeOf, flag, sound}
+use Rattle.rules.specs.Map.{Row, row, rows, segments, publics, placeOf, flag, flagAt, readersAt, smallestTag, largestTag, sound}
 use Rattle.rules.specs.Units.{unitBytes, unitOf, nameOf, bit, modelNo, stageNo, modelOf}
 use Rattle.rules.specs.State.{Cipher, State}
 use Rattle.rules.specs.Answers.{numberOf, refusalOf, stopNumber, codeOf}
@@ -54,14 +54,14 @@ pub record TheMap (t : List ℕ) : Type 0 where
 abbrev pub NoSpare : List ℕ → Type 0
 NoSpare t = (a n : ℕ) → 1 ≤ n → placeOf t a n ≢ some Spare
 
--- "Smallest 20,480 bytes, largest 1,064,960."
+-- "Smallest 20,480 bytes, largest 1,064,960": no sound tag is outside, and both are reached
 pub record Sizes (t : List ℕ) : Type 0 where
-  pub smallest : 20480 ≤ length t
-  pub largest : length t ≤ 1064960
+  pub smallest : smallestTag ≤ length t
+  pub largest : length t ≤ largestTag
 
 pub record SizesReached : Type 0 where
-  pub smallest : (t : List ℕ) × (sound t ≡ true) × (length t ≡ 20480)
-  pub largest : (t : List ℕ) × (sound t ≡ true) × (length t ≡ 1064960)
+  pub smallest : (t : List ℕ) × (sound t ≡ true) × (length t ≡ smallestTag)
+  pub largest : (t : List ℕ) × (sound t ≡ true) × (length t ≡ largestTag)
 
 -- "A tag is sound when its length is 4,096 x (4+A+P), A and P are in range, the flag is 0 or 1, the three zeros hold, and
 -- PIN 0 is all zeros."
@@ -127,7 +127,7 @@ pub record RefusedChangesNothing (E : Cipher) (s : State) (c : Command) (n : ℕ
   pub same-session : after E s c .session ≡ s .session
   pub same-tag : n ≢ 11 → after E s c .tag ≡ s .tag
   pub flag-set : n ≡ 11 → flag (after E s c .tag) ≡ 1
-  pub other-bytes : (i : ℕ) → i ≢ 12 → byte i (after E s c .tag) ≡ byte i (s .tag)
+  pub other-bytes : (i : ℕ) → i ≢ flagAt → byte i (after E s c .tag) ≡ byte i (s .tag)
   pub same-length : length (after E s c .tag) ≡ length (s .tag)
 
 -- ---- the rights that a unit asks for, held in a session: to read its segment, and to write it
@@ -155,7 +155,7 @@ pub record SoundStays (E : Cipher) (s : State) (c : Command) : Type 0 where
   pub same-segments : segments (after E s c .tag) ≡ segments (s .tag)
   pub same-publics : publics (after E s c .tag) ≡ publics (s .tag)
   pub low-stays : part 16 4096 (after E s c .tag) ≡ part 16 4096 (s .tag)
-  pub readers-stay : (refusal E s c ≡ none → NoInsertion c) → part 8192 4096 (after E s c .tag) ≡ part 8192 4096 (s .tag)
+  pub readers-stay : (refusal E s c ≡ none → NoInsertion c) → part readersAt 4096 (after E s c .tag) ≡ part readersAt 4096 (s .tag)
 
 -- ---- "A unit with nE set is locked: no edit is granted. The models' own moves of RD, WR and stage still happen."
 

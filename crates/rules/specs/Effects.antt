@@ -16,9 +16,9 @@ use Rattle.rules.specs.declared.Register.the-variants.{Write, Read, Edit
 use Rattle.rules.specs.declared.Place.{Place}
 use Rattle.rules.specs.declared.Place.the-variants.{Header, Hidden, RegisterOf, Pins, Readers, UnitOf, Spare, Segment, Public}
 use Rattle.rules.specs.Bytes.{put, xor, byte, part, bytesOf}
-use Rattle.rules.specs.Map.{unitAt, pinAt, segments}
+use Rattle.rules.specs.Map.{flagAt, unitAt, pinAt, readersAt, segments}
 use Rattle.rules.specs.Units.{unitOf, unitBytes}
-use Rattle.rules.specs.Hosts.{Host, hosts, readersAt, hostSlotAt, slotId, slotKey, slotMask}
+use Rattle.rules.specs.Hosts.{Host, hosts, rowAt, hostSlotAt, slotId, slotKey, slotMask}
 use Rattle.rules.specs.State.{Cipher, State, pin, pinIndex, response, owner, ownerIndex, withRead, withWrite, withEdit, withName, withId, withPa}
 
 infix 68 _↤_
@@ -30,7 +30,7 @@ apply [] t = t
 apply ((at ↤ bs) ∷ ss) t = apply ss (put at bs t)
 
 abbrev pub setFlag : ℕ → Store
-setFlag b = 12 ↤ (b ∷ [])
+setFlag b = flagAt ↤ (b ∷ [])
 
 -- ---- "Segment write: .. Default stores. Model 1 stores, then clears WR and sets RD. Model 2 takes one aligned slot
 -- .. Model 3 stores at stage 0 and XORs into what is there at stage 1." Document 02, L4: "A granted write at stage 0
@@ -107,7 +107,7 @@ inserted u = readOnly (byte 0 u) ∷ 0x14 ∷ []
 
 -- "18 bytes a row, id first and segment number plus one after": row x
 unfoldable pub rowStore : (x k : ℕ) (id : List ℕ) → Store
-rowStore x k id = (readersAt + 18 * x) ↤ (id ++ bytesOf 2 (k + 1))
+rowStore x k id = (readersAt + rowAt x) ↤ (id ++ bytesOf 2 (k + 1))
 
 unfoldable pub insertStores : List ℕ → ℕ → List ℕ → List Store
 insertStores t k id =

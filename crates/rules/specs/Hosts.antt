@@ -6,13 +6,10 @@ use mathlib.Core.List.{List, [], _∷_}
 use lib.ListN.{length}
 use lib.Dec.{eqb, leb}
 use Rattle.rules.specs.Bytes.{part, number, zeros, same, all}
-use Rattle.rules.specs.Map.{segmentAt}
+use Rattle.rules.specs.Map.{readersAt, segmentAt}
 
 -- ---- "The reader ID segment lists the hosts, 18 bytes a row, id first and segment number plus one after; the first zero
 -- id ends the list, 85 rows at most."
-
-abbrev pub readersAt : ℕ
-readersAt = 8192
 
 unfoldable pub readers : List ℕ → List ℕ
 readers t = part readersAt 4096 t
@@ -22,13 +19,17 @@ pub record Host : Type 0 where
   pub id : List ℕ
   pub named : ℕ
 
+-- where row i begins in the segment
+abbrev pub rowAt : ℕ → ℕ
+rowAt i = 18 * i
+
 unfoldable pub hostAt : List ℕ → ℕ → Host
-hostAt r i = record { id = part (18 * i) 16 r; named = number (part (18 * i + 16) 2 r) }
+hostAt r i = record { id = part (rowAt i) 16 r; named = number (part (rowAt i + 16) 2 r) }
 
 -- the list from row i on, of at most n rows
 unfoldable pub hostsFrom : (n i : ℕ) → List ℕ → List Host
 hostsFrom zero i r = []
-hostsFrom (suc n) i r = cond (zeros (part (18 * i) 16 r)) [] (hostAt r i ∷ hostsFrom n (suc i) r)
+hostsFrom (suc n) i r = cond (zeros (part (rowAt i) 16 r)) [] (hostAt r i ∷ hostsFrom n (suc i) r)
 
 unfoldable pub mostHosts : ℕ
 mostHosts = 85

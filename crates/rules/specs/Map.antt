@@ -19,24 +19,31 @@ segments t = number (part 0 2 t)
 unfoldable pub publics : List ℕ → ℕ
 publics t = number (part 2 2 t)
 
+-- the bytes of the counter, and its value
+abbrev pub counterBytes : List ℕ → List ℕ
+counterBytes t = part 4 8 t
+
 unfoldable pub counter : List ℕ → ℕ
-counter t = number (part 4 8 t)
+counter t = number (counterBytes t)
+
+abbrev pub flagAt : ℕ
+flagAt = 12
 
 unfoldable pub flag : List ℕ → ℕ
-flag t = byte 12 t
+flag t = byte flagAt t
 
 -- "A access-controlled (1 to 128), P public (0 to 128)"
 unfoldable pub most : ℕ
 most = 128
 
--- ---- the address rule. How many management segments hold the units, and so where the segments begin, is said here
--- alone; of the proofs only those in MapLaws open it, mainly for the law that the units end before the segments.
+-- "Smallest 20,480 bytes, largest 1,064,960."
+abbrev pub smallestTag : ℕ
+smallestTag = 20480
 
-unfoldable pub managements : ℕ → ℕ
-managements A = 1
+abbrev pub largestTag : ℕ
+largestTag = 1064960
 
-unfoldable pub segmentsAt : ℕ → ℕ
-segmentsAt A = 12288 + 4096 * managements A
+-- ---- the addresses
 
 -- "owner PINs 0 to 3 at 16, 32, 48, 64"
 abbrev pub ownerAt : ℕ → ℕ
@@ -50,9 +57,21 @@ registerAt i = 3984 + 16 * i
 abbrev pub pinAt : ℕ → ℕ
 pinAt i = 4096 + 16 * i
 
+-- "8192: reader ID segment"
+abbrev pub readersAt : ℕ
+readersAt = 8192
+
 -- "12288 + 32k: unit of segment k"
 abbrev pub unitAt : ℕ → ℕ
 unitAt k = 12288 + 32 * k
+
+-- The address rule: how many management segments hold the units, and so where the segments begin, is said here alone. Of
+-- the proofs about the rules only those in MapLaws open it, mainly for the law that the units end before the segments.
+unfoldable pub managements : ℕ → ℕ
+managements A = 1
+
+unfoldable pub segmentsAt : ℕ → ℕ
+segmentsAt A = unitAt 0 + 4096 * managements A
 
 -- "16384 + 4096k: segment k; public segments follow": they are the numbers A, A + 1, ..
 abbrev pub segmentAt : ℕ → ℕ → ℕ
@@ -100,7 +119,7 @@ rows A P =
     ∷ row 16 3968 1 (λ i. Hidden)
     ∷ row (registerAt 0) 16 7 (λ i. RegisterOf (registerNo i))
     ∷ row (pinAt 0) 4096 1 (λ i. Pins)
-    ∷ row 8192 4096 1 (λ i. Readers)
+    ∷ row readersAt 4096 1 (λ i. Readers)
     ∷ row (unitAt 0) 32 A UnitOf
     ∷ row (unitAt A) (segmentsAt A - unitAt A) 1 (λ i. Spare)
     ∷ row (segmentAt A 0) 4096 A Segment

@@ -16,7 +16,7 @@ use Rattle.rules.specs.declared.Register.the-variants.{Write, Read, Edit
 use Rattle.rules.specs.declared.Place.{Place}
 use Rattle.rules.specs.declared.Place.the-variants.{Header, Hidden, RegisterOf, Pins, Readers, UnitOf, Spare, Segment, Public}
 use Rattle.rules.specs.Bytes.{number, part, same, zeros, all, byte, put}
-use Rattle.rules.specs.Map.{flag, unitAt, segmentAt, segments}
+use Rattle.rules.specs.Map.{counterBytes, flag, unitAt, segmentAt, segments}
 use Rattle.rules.specs.Units.{wellFormed, unitOf, nameOf, modelled, unitBytes}
 use Rattle.rules.specs.Hosts.{Host, hosts, mostHosts, hasId, any, listed, repeats, readable}
 use Rattle.rules.specs.State.{pin, response, Cipher, State, pinIndex, owner, ownerIndex, guard}
@@ -59,7 +59,7 @@ valueChecks shaped old bs =
 unfoldable pub headerWriteChecks : List ℕ → ℕ → List ℕ → Checks
 headerWriteChecks t a bs =
     4 when not (eqb a 4 && eqb (length bs) 8) else
-    valueChecks true (part 4 8 t) bs
+    valueChecks true (counterBytes t) bs
 
 -- ---- "Segment read: RD set; if RDPIN, the validated read index equals the unit's; if PN, the session name equals
 -- the unit's." Document 02, L4: "a read there gets 6 unless its segment is listed and it lies wholly in slots of listed

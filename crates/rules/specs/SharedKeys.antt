@@ -8,9 +8,9 @@ use lib.ListN.{length, replicate}
 use Rattle.rules.specs.declared.KeyStage.the-variants.{Inserted}
 use Rattle.rules.specs.declared.Model.the-variants.{SharedKey}
 use Rattle.rules.specs.Bytes.{byte, part, xor, Apart}
-use Rattle.rules.specs.Map.{segments, segmentAt, unitAt}
+use Rattle.rules.specs.Map.{segments, segmentAt, readersAt, unitAt}
 use Rattle.rules.specs.Units.{wellFormed, unitBytes, unitOf}
-use Rattle.rules.specs.Hosts.{Host, hosts, hostAt, readers, readersAt, listed, hostSlotAt, slotId, slotKey, slotMask}
+use Rattle.rules.specs.Hosts.{Host, hosts, hostAt, rowAt, readers, listed, hostSlotAt, slotId, slotKey, slotMask}
 use Rattle.rules.specs.State.{Cipher, State}
 use Rattle.rules.specs.Refusals.{isSharedKey}
 use Rattle.rules.specs.Effects.{slotIn}
@@ -50,7 +50,7 @@ pub record ReadsListed (E : Cipher) (s : State) (k a n room : ℕ) : Type 0 wher
 -- the n bytes at a are none that the insertion of a host with segment k may change: its row, the two first bytes of its
 -- unit, and for each row the two slots of the pair
 pub record Untouched (t : List ℕ) (k a n : ℕ) : Type 0 where
-  pub off-row : Apart (readersAt + 18 * length (hosts t)) 18 a n
+  pub off-row : Apart (readersAt + rowAt (length (hosts t))) 18 a n
   pub off-unit : Apart (unitAt k) 2 a n
   pub off-their-slots : (i : ℕ) → i < length (hosts t) → Apart (slotForNew t i) 48 a n
   pub off-own-slots : (i : ℕ) → i < length (hosts t) → Apart (slotForRow t k i) 48 a n

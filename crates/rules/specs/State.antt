@@ -5,10 +5,10 @@ use mathlib.Core.List.{List, _++_}
 use lib.ListN.{replicate}
 use Rattle.rules.specs.declared.Session.{Session}
 use Rattle.rules.specs.Bytes.{number, part}
-use Rattle.rules.specs.Map.{pinAt, ownerAt}
+use Rattle.rules.specs.Map.{counterBytes, pinAt, ownerAt}
 
 -- ---- "The session .. : validated read, write and edit indexes, and the 16-byte name, ID and PA arrays."
--- Only power-up and the six functions below it name every part of a session.
+-- Of the rules only power-up and the six functions below it name every part of a session.
 
 -- "Power-up makes it all zeros"
 unfoldable pub poweredUp : Session
@@ -71,4 +71,4 @@ encipheredCounter E key c = E key (replicate 8 0 ++ c)
 
 -- E_K(counter), by the counter that the header holds
 unfoldable pub response : Cipher → List ℕ → List ℕ → List ℕ
-response E key t = encipheredCounter E key (part 4 8 t)
+response E key t = encipheredCounter E key (counterBytes t)
