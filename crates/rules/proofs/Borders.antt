@@ -9,9 +9,9 @@ use Rattle.rules.specs.Refusals.{lowest, isNext, isRepeat, valueChecks, 
 use Rattle.rules.specs.Effects.{stored, readOnly, writeMove, advanced, advanceMove, registerStores, registerSession, writeStores, writeSession}
 use Rattle.rules.specs.Command.{refusal, inPlace, checks, stores, storesIn, sessionIn, newSession}
 use Rattle.rules.specs.Log.{countOf, kinds, kindIn, bodyLength, commandOf, wholeOf, first, readCode, encoded, roomFor}
-use Rattle.rules.specs.Examples.{eight, hostId}
+use Rattle.rules.specs.Examples.{eight, hostId, got, owed}
 use Rattle.rules.specs.Borders.{Borders, counted, places, below, anyValue, byteBorders, modelBorders, unitWith, readBorders, host, hostReadBorders, writeBorders, slotBorders, unitReadBorders, editBorders, advanceBorders, keyStageBorders, listBorders, storedBorders, advancedBorders}
-use Rattle.rules.specs.CommandBorders.{CommandBorders, borderTag, right, zeroRight, refusals, got, due, listTag, insertBorders, holder, effects, known, kindBorders, replyBorders, roomBorders}
+use Rattle.rules.specs.CommandBorders.{CommandBorders, borderTag, right, zeroRight, refusals, listTag, insertBorders, holder, effects, known, kindBorders, replyBorders, roomBorders}
 
 -- both under one list of what is opened
 computed : Borders × CommandBorders
@@ -25,7 +25,7 @@ unfolding part put numberFrom same zeros xor all segments publics counter flag m
     refusal stored readOnly writeMove advanced advanceMove registerStores registerSession writeStores writeSession storesIn sessionIn
     stores newSession countOf kinds kindIn bodyLength commandOf wholeOf first readCode encoded roomFor eight hostId counted places
     below anyValue byteBorders modelBorders unitWith readBorders host hostReadBorders writeBorders slotBorders
-    unitReadBorders editBorders advanceBorders keyStageBorders listBorders storedBorders advancedBorders borderTag right zeroRight refusals got due
+    unitReadBorders editBorders advanceBorders keyStageBorders listBorders storedBorders advancedBorders borderTag right zeroRight refusals got owed
     listTag insertBorders holder effects known kindBorders replyBorders roomBorders
 computed = (
   record {

@@ -264,15 +264,15 @@ stop-named E s (c taking n then p) room =
     by false x = (OutputFull, refl)
 
 pub run-called-is-run : (E : Cipher) → RunCalledIsRun E
-run-called-is-run E s log out n i j t b o h =
+run-called-is-run E s log out n i j t b o r h =
     let x = runOver E s log out in
     let named : (q : Stop) × (x .stop ≡ stopNumber q) =
     unfold runOver resultOf runLog in stop-named E s (parsed 0 log) (length out) in (
       named .0,
-      sym (h .stopped ∙ ap codeOf (named .1)),
+      sym (r .stopped ∙ ap codeOf (named .1)),
       rw (
-        h .read,
-        h .written,
+        r .read,
+        r .written,
         ← named .1,
         ap (λ y. y .session) (h .left),
         ap (λ y. y .tag) (h .left),

@@ -1,5 +1,5 @@
 -- Calls from C: the session as 54 bytes, and what a C function owes that carries a command out or runs over a log. The
--- functions of the library for C have `Called` and `RunCalled` as their contracts. Assumes nothing.
+-- functions of the library for C have `Called`, or `RunReturned` and `RunLeft`, as their contracts. Assumes nothing.
 use Prim.Native.Nat.{ℕ, _<_}
 use mathlib.Core.Path.{_≡_}
 use mathlib.Core.List.{List, [], _∷_, flatten}
@@ -31,27 +31,33 @@ unfoldable pub sessionBytes : Session → List ℕ
 sessionBytes v =
     flatten (bytesOf 2 (v .read) ∷ bytesOf 2 (v .write) ∷ bytesOf 2 (v .edit) ∷ v .name ∷ v .id ∷ v .pa ∷ [])
 
+-- the state of a tag and a session's bytes
+abbrev pub stateOf : (t b : List ℕ) → State
+stateOf t b = state t (sessionOf b)
+
 -- ---- the contracts
 
 -- a call that carries the command c out on the state s, returns n and leaves the tag t and the session's bytes b
 pub record Called (E : Cipher) (s : State) (c : Command) (n : ℕ) (t b : List ℕ) : Type 0 where
   pub answered : n ≡ codeOf (refusal E s c)
-  pub left : state t (sessionOf b) ≡ after E s c
+  pub left : stateOf t b ≡ after E s c
   pub kept : b ≡ sessionBytes (after E s c .session)
 
--- a run that leaves x by the rules, returns n and leaves i bytes read, j bytes written, the tag t, the session's bytes b
--- and the output o
-pub record RunLeft (x : Result) (n i j : ℕ) (t b o : List ℕ) : Type 0 where
+-- a run that comes to x by the rules: it returns n, i bytes read and j bytes written; and it leaves the tag t, the session's
+-- bytes b and the output o
+pub record RunReturned (x : Result) (n i j : ℕ) : Type 0 where
   pub stopped : n ≡ codeOf (x .stop)
   pub read : i ≡ x .read
   pub written : j ≡ x .written
-  pub left : state t (sessionOf b) ≡ state (x .tag) (x .session)
+
+pub record RunLeft (x : Result) (t b o : List ℕ) : Type 0 where
+  pub left : stateOf t b ≡ state (x .tag) (x .session)
   pub kept : b ≡ sessionBytes (x .session)
   pub output : o ≡ x .output
 
--- a run over a log from the state s into the output `out`
-abbrev pub RunCalled : Cipher → State → (log out : List ℕ) → (n i j : ℕ) (t b o : List ℕ) → Type 0
-RunCalled E s log out n i j t b o = RunLeft (runOver E s log out) n i j t b o
+-- what a run comes to, from the tag t and the session's bytes b
+abbrev pub runFrom : Cipher → (t b log out : List ℕ) → Result
+runFrom E t b log out = runOver E (stateOf t b) log out
 
 -- ---- nothing is lost in 54 bytes
 
@@ -83,5 +89,6 @@ CalledIsCall E =
 
 abbrev pub RunCalledIsRun : Cipher → Type 0
 RunCalledIsRun E =
-    (s : State) (log out : List ℕ) (n i j : ℕ) (t b o : List ℕ) → RunCalled E s log out n i j t b o
+    (s : State) (log out : List ℕ) (n i j : ℕ) (t b o : List ℕ) → RunReturned (runOver E s log out) n i j
+    → RunLeft (runOver E s log out) t b o
     → (q : Stop) × (codeOf (stopNumber q) ≡ n) × (result (returned i j q (sessionOf b)) t o ≡ runOver E s log out)

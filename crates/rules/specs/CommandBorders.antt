@@ -2,19 +2,18 @@
 use Prim.Native.Nat.{ℕ, _-_}
 use mathlib.Core.Path.{_≡_}
 use mathlib.Core.Bool.{Bool, true, false}
-use mathlib.Core.List.{List, [], _∷_, _++_, map}
+use mathlib.Core.List.{List, [], _∷_, _++_}
 use mathlib.Core.Option.{Option, none, some}
 use lib.ListN.{length, drop, replicate}
 use Rattle.rules.specs.declared.Session.{Session}
 use Rattle.rules.specs.Bytes.{put}
 use Rattle.rules.specs.Hosts.{Host}
 use Rattle.rules.specs.State.{State, state, poweredUp, pin, owner}
-use Rattle.rules.specs.Answers.{codeOf}
 use Rattle.rules.specs.Refusals.{listRefuses}
 use Rattle.rules.specs.Effects.{Store, _↤_}
-use Rattle.rules.specs.Command.{Command, read, write, advance, insert, powerUp, Reply, done, gives, refused, refusal, stores, newSession}
+use Rattle.rules.specs.Command.{Command, read, write, advance, insert, powerUp, Reply, done, gives, refused, stores, newSession}
 use Rattle.rules.specs.Log.{first, encoded, roomFor}
-use Rattle.rules.specs.Examples.{xorCipher, eight, hostId}
+use Rattle.rules.specs.Examples.{Example, asks, Hold, xorCipher, eight, hostId}
 use Rattle.rules.specs.Borders.{Table, counted, below, unitWith, plainUnit, host}
 
 -- ---- the commands: counts, places, the header, registers; and of each table in Borders.antt that it is asked, with the
@@ -56,8 +55,8 @@ session r w e name pa guard =
 abbrev pub knowing : (r w e name : ℕ) → State
 knowing r w e name = state borderTag (session r w e name (0 ∷ 0 ∷ 0 ∷ 0 ∷ []) 0)
 
-abbrev pub naming : (index owner : List ℕ) → State
-naming index owner = state borderTag (session 0 0 0 0 (index ++ owner) 15)
+abbrev pub pointing : (index owner : List ℕ) → State
+pointing index owner = state borderTag (session 0 0 0 0 (index ++ owner) 15)
 
 -- the response by PIN 1, and by a PIN of zeros
 unfoldable pub right : List ℕ
@@ -66,11 +65,7 @@ right = replicate 15 5 ++ 250 ∷ []
 unfoldable pub zeroRight : List ℕ
 zeroRight = replicate 15 0 ++ 255 ∷ []
 
--- what is sent to a state, each command by itself, and the number that is due; a grant is 0
-pub data Asked : Type 0 where
-  asks : State → List (Command × ℕ) → Asked
-
-unfoldable pub refusals : List Asked
+unfoldable pub refusals : List Example
 refusals =
     -- 1
     asks (state (put 12 (2 ∷ []) borderTag) poweredUp)
@@ -166,7 +161,7 @@ refusals =
     ∷ (insert 0 (hostId 1), 8)
     ∷ [])
     -- registers: 9, 11
-    ∷ asks (naming (0 ∷ 1 ∷ []) (0 ∷ 3 ∷ []))
+    ∷ asks (pointing (0 ∷ 1 ∷ []) (0 ∷ 3 ∷ []))
     ((write 3984 right, 0)
     ∷ (write 3984 zeroRight, 11)
     ∷ (write 3984 (replicate 15 5), 9)
@@ -188,17 +183,17 @@ refusals =
     ∷ (write 4080 zeroRight, 0)
     ∷ (write 4080 (replicate 15 5), 9)
     ∷ [])
-    ∷ asks (naming (0 ∷ 1 ∷ []) (0 ∷ 0 ∷ [])) ((write 4064 (replicate 16 15), 0) ∷ (write 4064 (replicate 16 6), 11) ∷ [])
-    ∷ asks (naming (0 ∷ 0 ∷ []) (0 ∷ 3 ∷ []))
+    ∷ asks (pointing (0 ∷ 1 ∷ []) (0 ∷ 0 ∷ [])) ((write 4064 (replicate 16 15), 0) ∷ (write 4064 (replicate 16 6), 11) ∷ [])
+    ∷ asks (pointing (0 ∷ 0 ∷ []) (0 ∷ 3 ∷ []))
     ((write 3984 zeroRight, 0)
     ∷ (write 3984 (replicate 8 0 ++ 255 ∷ replicate 7 0), 11)
     ∷ (write 4064 (replicate 16 6), 9)
     ∷ [])
-    ∷ asks (naming (0 ∷ 255 ∷ []) (0 ∷ 3 ∷ []))
+    ∷ asks (pointing (0 ∷ 255 ∷ []) (0 ∷ 3 ∷ []))
     ((write 3984 zeroRight, 0) ∷ (write 4032 zeroRight, 0) ∷ (write 4064 (replicate 16 6), 0) ∷ [])
-    ∷ asks (naming (0 ∷ 1 ∷ []) (0 ∷ 4 ∷ [])) ((write 3984 right, 0) ∷ (write 4064 (replicate 16 6), 9) ∷ [])
-    ∷ asks (naming (0 ∷ 1 ∷ []) (1 ∷ 3 ∷ [])) ((write 3984 right, 0) ∷ (write 4064 (replicate 16 6), 9) ∷ [])
-    ∷ asks (naming (1 ∷ 0 ∷ []) (0 ∷ 3 ∷ []))
+    ∷ asks (pointing (0 ∷ 1 ∷ []) (0 ∷ 4 ∷ [])) ((write 3984 right, 0) ∷ (write 4064 (replicate 16 6), 9) ∷ [])
+    ∷ asks (pointing (0 ∷ 1 ∷ []) (1 ∷ 3 ∷ [])) ((write 3984 right, 0) ∷ (write 4064 (replicate 16 6), 9) ∷ [])
+    ∷ asks (pointing (1 ∷ 0 ∷ []) (0 ∷ 3 ∷ []))
     ((write 3984 zeroRight, 9)
     ∷ (write 4000 zeroRight, 9)
     ∷ (write 4016 zeroRight, 9)
@@ -220,14 +215,8 @@ refusals =
     ∷ [])
     ∷ []
 
-unfoldable pub got : Asked → List ℕ
-got (asks s rows) = map (λ x. codeOf (refusal xorCipher s (x .0))) rows
-
-unfoldable pub due : Asked → List ℕ
-due (asks s rows) = map (λ x. x .1) rows
-
 abbrev pub RefusalsGiven : Type 0
-RefusalsGiven = map got refusals ≡ map due refusals
+RefusalsGiven = Hold xorCipher refusals
 
 -- 19: the id of a host that is to have segment 2, and the list. On this tag A is 5. Segments 0 and 4 are at stage 1, 1 would
 -- be if it were well formed, 2 and 3 are at stage 0; and behind the units the next bytes would be one at stage 1. A list of 85

@@ -9,7 +9,8 @@ use lib.ListN.{replicate}
 use Rattle.rules.specs.Bytes.{put, xor}
 use Rattle.rules.specs.Map.{registerAt, sound}
 use Rattle.rules.specs.State.{Cipher, State, poweredUp, withPa}
-use Rattle.rules.specs.Command.{Command, Reply, write, done, refused, read, gives, advance, insert, powerUp}
+use Rattle.rules.specs.Answers.{codeOf}
+use Rattle.rules.specs.Command.{Command, Reply, write, done, refused, read, gives, advance, insert, powerUp, refusal}
 use Rattle.rules.specs.Run.{replies, final}
 use Rattle.rules.specs.Log.{runLog}
 use Rattle.rules.specs.Demand3.{LockedCounter}
@@ -36,23 +37,27 @@ begin t = record { tag = t; session = poweredUp }
 unfoldable pub naming : (high low : ℕ) → List ℕ → State
 naming high low t = record { tag = t; session = withPa (high ∷ low ∷ replicate 14 0) poweredUp }
 
--- what is sent from a state, and what is owed: answers to commands, or bytes read, bytes written and stop of a log
--- run in `room` bytes
+-- what is sent from a state, and what is owed: answers to commands, one after another; the number of each command by
+-- itself, 0 for a grant; or bytes read, bytes written and stop of a log run in `room` bytes
 pub data Example : Type 0 where
   sends : State → List Command → List Reply → Example
+  asks : State → List (Command × ℕ) → Example
   runs : (room : ℕ) → State → List ℕ → (taken : ℕ) → List ℕ → (stop : Option ℕ) → Example
 
 pub data Got : Type 0 where
   answers : List Reply → Got
+  numbers : List ℕ → Got
   ran : ℕ → List ℕ → Option ℕ → Got
 
 unfoldable pub got : Cipher → Example → Got
 got E (sends s cs rs) = answers (replies E s cs)
+got E (asks s rows) = numbers (map (λ x. codeOf (refusal E s (x .0))) rows)
 got E (runs room s log n out x) =
     ran (runLog E s log room .taken) (runLog E s log room .output) (runLog E s log room .stop)
 
 unfoldable pub owed : Example → Got
 owed (sends s cs rs) = answers rs
+owed (asks s rows) = numbers (map (λ x. x .1) rows)
 owed (runs room s log n out x) = ran n out x
 
 abbrev pub Hold : Cipher → List Example → Type 0
