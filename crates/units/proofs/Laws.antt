@@ -2,37 +2,30 @@
 use Prim.Native.Nat.{ℕ, zero, suc, _+_, _*_, _/_, _%_, _≤_, _<_}
 use mathlib.Core.Path.{_≡_, refl, sym, ap, subst, _∙_}
 use mathlib.Core.Logic.{_≢_}
-use mathlib.Core.Bool.{Bool, true, false, _&&_, _||_, not, cond, and-assoc, and-true as and-right, and-false, or-false}
+use mathlib.Core.Bool.{Bool, true, false, _&&_, not, cond, and-assoc, and-true as and-right, and-false}
 use mathlib.Core.List.{List, [], _∷_}
 use native.Mathlib.Omega.{arith}
-use native.Mathlib.Nat.{mod-lt, mod-eq-of-lt}
+use native.Mathlib.Nat.{mod-lt}
 use types.Run.{OneOf, miss}
 use denote.Enum.Declared.{tagOf}
 use lib.ListN.{length, set}
 use lib.Seq.{set-getD}
-use lib.Dec.{eqb}
-use borrow.Author.Tests.{eq-eqb, ne-eqb, lt-leb, not-true}
-use Rattle.rules.specs.declared.Stage.{Stage}
-use Rattle.rules.specs.declared.Stage.the-variants.{Zero, One, Two}
-use Rattle.rules.specs.declared.KeyStage.the-variants.{Filling}
+use lib.Dec.{eqb, leb}
+use borrow.Author.Tests.{eq-eqb, ne-eqb, lt-leb}
 use Rattle.rules.specs.declared.Model.{Model}
 use Rattle.rules.specs.declared.Model.the-variants.{Default, WriteOnce, Counter, Receiver, SharedKey}
 use Rattle.rules.specs.declared.Unit.{Unit}
-use Rattle.rules.specs.Bytes.{byte, all, put}
-use Rattle.rules.specs.Units.{bit, modelled, modelNo, stageNo, modelFits, modelOf, stageOf}
+use Rattle.rules.specs.Bytes.{byte, part, number, zeros, all, put}
+use Rattle.rules.specs.Units.{bit, rfu, modelNo, stageNo, modelFits, modelOf, modelFormed}
 use Rattle.rules.specs.Units.{wellFormed, formedness, unitOf, unitBytes}
 use Rattle.rules.specs.Map.{unitAt}
 use Rattle.rules.specs.Refusals.{isReceiver, isSharedKey, isFilling, isInserted, pastStageZero, sameBool, keepsModel, editAllowed}
-use Rattle.rules.specs.Effects.{readOnly, advanced, inserted}
 use Rattle.rules.proofs.Model as the-model
-use Rattle.rules.proofs.Tests.{true-false, and-true}
-use Rattle.rules.proofs.Moves.{bit-set, bit-clear}
-use Rattle.rules.proofs.HostUnits.{filling-fields}
 use Rattle.rules.proofs.BytesLaws.{byte-part}
 use Rattle.octets.proofs.Laws.{put-two, length-lent}
 use Rattle.units.specs.declared.Decoded.the-variants.{Unit as Whole, Malformed}
 use Rattle.units.specs.declared.ModelRead.the-variants.{Known, Unknown}
-use Rattle.units.specs.Decoded.{decoded, known, bothFit, modelRead, bytesFit, unitWith, mayBecome, opened, movedTo, readMoved}
+use Rattle.units.specs.Decoded.{decoded, modelRead}
 
 clash : {A : Type 0} → _≡_ {A = ℕ} 0 1 → A
 clash e = absurd (omega arith)
@@ -74,19 +67,19 @@ pub keeps-model-is : (u w : List ℕ)
 unfolding keepsModel unitOf bit
 keeps-model-is u w = simp (all-joined, all-one, low-bit, same-bits)
 
--- ---- the model of a control byte and a model byte
+-- ---- the model of a unit
 
 -- with M clear
-pub model-default : (control b : ℕ) → control % 2 ≢ 1 → modelRead control b ≡ Known Default
-unfolding modelRead bothFit
-model-default control b e = rw (low-bit control, ne-eqb _ _ e)
+pub model-default : (u : List ℕ) → byte 0 u % 2 ≢ 1 → modelRead (modelFormed u) (unitOf u .model) ≡ Known Default
+unfolding unitOf
+model-default u e = rw (low-bit (byte 0 u), ne-eqb _ _ e)
 
 -- with M set
-pub model-named : (control b : ℕ) → control % 2 ≡ 1
-    → modelRead control b
-    ≡ known (modelFits (b % 16) (b / 16) (bit 7 control) (bit 5 control)) (modelOf (b % 16) (b / 16))
-unfolding modelRead bothFit
-model-named control b e = rw (low-bit control, eq-eqb _ _ e)
+pub model-named : (u : List ℕ) → byte 0 u % 2 ≡ 1
+    → modelRead (modelFormed u) (unitOf u .model)
+    ≡ modelRead (modelFits (modelNo u) (stageNo u) (bit 7 (byte 0 u)) (bit 5 (byte 0 u))) (modelOf (modelNo u) (stageNo u))
+unfolding unitOf
+model-named u e = rw (low-bit (byte 0 u), eq-eqb _ _ e)
 
 -- a byte that names no model, as a `match` says it
 abbrev pub Nameless : ℕ → Type 0
@@ -115,44 +108,44 @@ fits-none (suc (suc (suc (suc zero)))) g rd wr n =
     rw (ne-eqb g 0 (other-stage 4 g 0 (n .0 .1)), ne-eqb g 1 (other-stage 4 g 1 (n .1)))
 fits-none (suc (suc (suc (suc (suc m))))) g rd wr n = refl
 
-pub model-none : (control b : ℕ) → control % 2 ≡ 1 → Nameless b → modelRead control b ≡ Unknown
-model-none control b e n =
-    let w : b ≡ b % 16 + 16 * (b / 16) = omega arith in
-    model-named control b e ∙ rw (fits-none (b % 16) (b / 16) _ _ (subst Nameless w n))
+pub model-none : (u : List ℕ) → byte 0 u % 2 ≡ 1 → Nameless (byte 1 u)
+    → modelRead (modelFormed u) (unitOf u .model) ≡ Unknown
+model-none u e n =
+    let w : byte 1 u ≡ modelNo u + 16 * stageNo u = omega arith in
+    model-named u e ∙ rw (fits-none (modelNo u) (stageNo u) _ _ (subst Nameless w n))
 
 -- ---- a well-formed unit, test by test
 
-well-formed-is : (u : List ℕ) → wellFormed u ≡ (bytesFit u && bothFit (byte 0 u) (byte 1 u))
-unfolding wellFormed formedness bytesFit bothFit unitOf
+-- those but the model's, joined as the code joins them
+abbrev otherTests : List ℕ → Bool
+otherTests u =
+    ((((not (rfu u) && zeros (part 2 2 u)) && leb (number (part 4 2 u)) 255) && leb (number (part 6 2 u)) 255)
+    && leb (number (part 8 2 u)) 255)
+    && zeros (part 10 6 u)
+
+well-formed-is : (u : List ℕ) → wellFormed u ≡ (otherTests u && modelFormed u)
+unfolding wellFormed formedness
 well-formed-is u = simp (all-joined, all-one)
 
-known-is : (b : Bool) (n m : Model) → known b n ≡ Known m → (b ≡ true) × (n ≡ m)
+pub well-formed-but-model : (u : List ℕ) → modelFormed u ≡ true → wellFormed u ≡ otherTests u
+well-formed-but-model u e = well-formed-is u ∙ ap (λ b. otherTests u && b) e ∙ and-right (otherTests u)
+
+known-is : (b : Bool) (n m : Model) → modelRead b n ≡ Known m → (b ≡ true) × (m ≡ n)
 known-is true n m e = (refl, cc)
 known-is false n m e = clash (cc)
 
-unknown-is : (b : Bool) (n : Model) → known b n ≡ Unknown → b ≡ false
+pub known-model : (u : List ℕ) (m : Model) → modelRead (modelFormed u) (unitOf u .model) ≡ Known m
+    → (modelFormed u ≡ true) × (m ≡ unitOf u .model)
+known-model u m e = known-is (modelFormed u) (unitOf u .model) m e
+
+unknown-is : (b : Bool) (n : Model) → modelRead b n ≡ Unknown → b ≡ false
 unknown-is true n e = clash (cc)
 unknown-is false n e = refl
 
-pub decoded-known : (u : List ℕ) (m : Model) → bytesFit u ≡ true → modelRead (byte 0 u) (byte 1 u) ≡ Known m
-    → decoded u ≡ Whole (unitWith u m)
-unfolding decoded modelRead unitOf unitWith
-decoded-known u m e f =
-    let k = known-is (bothFit (byte 0 u) (byte 1 u)) (unitOf u .model) m f in
-    rw (well-formed-is u, e, k .0, k .1)
-
-pub decoded-unknown : (u : List ℕ) → modelRead (byte 0 u) (byte 1 u) ≡ Unknown → decoded u ≡ Malformed
-unfolding decoded modelRead unitOf
-decoded-unknown u f =
-    rw (
-      well-formed-is u,
-      unknown-is (bothFit (byte 0 u) (byte 1 u)) (unitOf u .model) f,
-      and-false (bytesFit u),
-    )
-
-pub decoded-unfit : (u : List ℕ) → bytesFit u ≡ false → decoded u ≡ Malformed
+pub decoded-unknown : (u : List ℕ) → modelRead (modelFormed u) (unitOf u .model) ≡ Unknown → decoded u ≡ Malformed
 unfolding decoded
-decoded-unfit u e = rw (well-formed-is u, e)
+decoded-unknown u f =
+    rw (well-formed-is u, unknown-is (modelFormed u) (unitOf u .model) f, and-false (otherTests u))
 
 -- ---- what a caller learns of a decoded unit
 
@@ -202,80 +195,15 @@ no-stage Counter o = refl
 no-stage (Receiver g) o = absurd (miss (0 ∷ 1 ∷ 2 ∷ []) 3 tt o)
 no-stage (SharedKey g) o = absurd (miss (0 ∷ 1 ∷ 2 ∷ []) 4 tt o)
 
-pub edit-allowed-is : (u w : List ℕ) (x : Unit) → decoded w ≡ Whole x
-    → editAllowed u w ≡ cond (isReceiver (unitOf u .model)) (keepsModel u w) (mayBecome (x .model))
+pub edit-allowed-is : (m : Model) (u w : List ℕ) (x : Unit) → decoded w ≡ Whole x
+    → editAllowed m u w ≡ cond (isReceiver m) (keepsModel u w) (not (pastStageZero (x .model)))
 unfolding editAllowed
-edit-allowed-is u w x e =
+edit-allowed-is m u w x e =
     let d = decoded-whole w x e in rw (d .0, d .1) (all-joined true _ [] ∙ all-one _)
 
-pub edit-malformed : (u w : List ℕ) → decoded w ≡ Malformed → editAllowed u w ≡ false
+pub edit-malformed : (m : Model) (u w : List ℕ) → decoded w ≡ Malformed → editAllowed m u w ≡ false
 unfolding editAllowed all
-edit-malformed u w e = rw (decoded-malformed w e)
-
--- ---- what the model says of byte 1, RD and WR
-
--- the model that stands in a well-formed unit, if it is another than the default one, is read from byte 1, and fits
-read-model : (b f : Bool) (m n : Model) → (not b || f) ≡ true → cond b m Default ≡ n → n ≢ Default
-    → (f ≡ true) × (m ≡ n)
-read-model false f m n w e d = absurd (d (sym e))
-read-model true f m n w e d = (w, e)
-
-model-fits : (u : List ℕ) (n : Model) → wellFormed u ≡ true → unitOf u .model ≡ n → n ≢ Default
-    → (modelFits (modelNo u) (stageNo u) (unitOf u .rd) (unitOf u .wr) ≡ true)
-    × (modelOf (modelNo u) (stageNo u) ≡ n)
-unfolding unitOf bothFit
-model-fits u n w e d =
-    read-model (modelled u) _ _ n (and-true (bytesFit u) _ (sym (well-formed-is u) ∙ w) .1) e d
-
-once-fits : (m g s : ℕ) (rd wr : Bool) → modelFits m g rd wr ≡ true → modelOf m s ≡ WriteOnce → wr ≡ true
-    → rd ≡ false
-unfolding modelFits modelOf
-once-fits zero g s rd wr f e h = clash (cc)
-once-fits (suc zero) g s false wr f e h = refl
-once-fits (suc zero) g s true wr f e h = true-false (sym (rw h at (and-true (eqb g 0) (not wr || false) f .1)))
-once-fits (suc (suc zero)) g s rd wr f e h = clash (cc)
-once-fits (suc (suc (suc zero))) g s rd wr f e h = clash (cc)
-once-fits (suc (suc (suc (suc m)))) g s rd wr f e h = clash (cc)
-
--- a unit of model 1 that can be written cannot be read
-pub once-writable : (u : List ℕ) → wellFormed u ≡ true → unitOf u .model ≡ WriteOnce → unitOf u .wr ≡ true
-    → unitOf u .rd ≡ false
-once-writable u w e h =
-    let x = model-fits u WriteOnce w e (λ d. clash (cc)) in
-    once-fits (modelNo u) (stageNo u) (stageNo u) _ _ (x .0) (x .1) h
-
--- the stage number, RD and WR of model 3 at a stage
-abbrev Stands : Stage → ℕ → Bool → Bool → Type 0
-Stands Zero g rd wr = (g ≡ 0) × (rd ≡ false) × (wr ≡ true)
-Stands One g rd wr = (g ≡ 1) × (rd ≡ false) × (wr ≡ true)
-Stands Two g rd wr = (g ≡ 2) × (rd ≡ true) × (wr ≡ false)
-
-receiver-stands : (g : ℕ) (rd wr : Bool) → modelFits 3 g rd wr ≡ true → Stands (stageOf g) g rd wr
-unfolding modelFits stageOf
-receiver-stands zero rd wr f =
-    let x = and-true _ _ (sym (or-false _) ∙ f) in (refl, not-true rd (x .0), x .1)
-receiver-stands (suc zero) rd wr f =
-    let x = and-true _ _ (sym (or-false _) ∙ f) in (refl, not-true rd (x .0), x .1)
-receiver-stands (suc (suc zero)) rd wr f =
-    let x = and-true _ _ f in (refl, x .0, not-true wr (x .1))
-receiver-stands (suc (suc (suc g))) rd wr f =
-    true-false (sym f ∙ rw (lt-leb (suc (suc (suc g))) 1 (omega arith), ne-eqb (suc (suc (suc g))) 2 (omega arith)))
-
-receiver-fits : (m g : ℕ) (s : Stage) (rd wr : Bool) → modelFits m g rd wr ≡ true → modelOf m g ≡ Receiver s
-    → (m ≡ 3) × Stands s g rd wr
-unfolding modelOf
-receiver-fits zero g s rd wr f e = clash (cc)
-receiver-fits (suc zero) g s rd wr f e = clash (cc)
-receiver-fits (suc (suc zero)) g s rd wr f e = clash (cc)
-receiver-fits (suc (suc (suc zero))) g s rd wr f e =
-    let i : stageOf g ≡ s = cc in (refl, subst (λ s. Stands s g rd wr) i (receiver-stands g rd wr f))
-receiver-fits (suc (suc (suc (suc m)))) g s rd wr f e = clash (cc)
-
-stands : (u : List ℕ) (g : Stage) → wellFormed u ≡ true → unitOf u .model ≡ Receiver g
-    → (modelNo u ≡ 3) × Stands g (stageNo u) (unitOf u .rd) (unitOf u .wr)
-stands u g w e =
-    let x = model-fits u (Receiver g) w e (λ d. clash (cc)) in
-    receiver-fits (modelNo u) (stageNo u) g _ _ (x .0) (x .1)
+edit-malformed m u w e = rw (decoded-malformed w e)
 
 -- ---- the bytes of unit k in the tag t
 
@@ -291,46 +219,9 @@ unit-byte t k =
 
 -- ---- moves
 
-pub opened-read-only : (b : ℕ) → b < 256 → bit 5 b ≡ true → bit 7 b ≡ false → opened b ≡ readOnly b
-unfolding readOnly
-opened-read-only b l w r =
-    let e : b / 32 % 2 ≡ 1 = bit-set 5 b w in
-    let f : b / 128 % 2 ≡ 0 = bit-clear 7 b r in
-    let low : b / 128 ≡ 0 = omega arith in
-    let q : b / 64 < 2 = omega arith in
-    let m : b / 64 % 2 ≡ b / 64 = mod-eq-of-lt q in
-    let h : b / 32 ≡ 2 * (b / 64) + 1 = omega arith in
-    omega arith
-
 -- two bytes stored one by one, the first of which stays
 pub put-second : (u : List ℕ) (b : ℕ) → set u 1 b ≡ put 0 (byte 0 u ∷ b ∷ []) u
 put-second u b = sym (ap (λ v. set v 1 b) (set-getD u 0 0)) ∙ put-two (byte 0 u) b u
 
 pub put-neither : (u : List ℕ) → u ≡ put 0 (byte 0 u ∷ byte 1 u ∷ []) u
 put-neither u = sym (set-getD u 1 0) ∙ put-second u (byte 1 u)
-
--- what an advance stores is what `rules` says, in the only bytes that a well-formed unit of model 3 can have there
-pub moved-advanced : (u : List ℕ) (g : Stage) → byte 0 u < 256 → wellFormed u ≡ true → unitOf u .model ≡ Receiver g
-    → movedTo g u ≡ advanced (Receiver g) u
-unfolding movedTo advanced
-moved-advanced u Zero l w e =
-    let x = stands u Zero w e in
-    let m : byte 1 u ≡ 0x03 = omega arith in
-    rw m
-moved-advanced u One l w e =
-    let x = stands u One w e in
-    let m : byte 1 u ≡ 0x13 = omega arith in
-    rw (m, opened-read-only (byte 0 u) l (unfold unitOf in x .1 .2) (unfold unitOf in x .1 .1))
-moved-advanced u Two l w e = refl
-
--- and what an insertion stores, in a unit of model 4 at stage 0
-pub moved-inserted : (u : List ℕ) → byte 0 u < 256 → wellFormed u ≡ true → unitOf u .model ≡ SharedKey Filling
-    → readMoved u ≡ inserted u
-unfolding readMoved inserted
-moved-inserted u l w e =
-    let y = model-fits u (SharedKey Filling) w e (λ d. clash (cc)) in
-    let x = filling-fields _ _ _ _ (y .0) (y .1) in
-    let n = x .0 in
-    let g = x .1 in
-    let m : byte 1 u ≡ 0x04 = omega (arith, n, g) in
-    rw (m, opened-read-only (byte 0 u) l (unfold unitOf in x .3) (unfold unitOf in x .2))

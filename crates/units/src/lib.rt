@@ -2,11 +2,13 @@
 // definitions that the contracts cite are in `rules`, Units.antt and Refusals.antt. A unit is its 32 bytes: whoever
 // calls hands over just these.
 ghost use mathlib.Core.Path.{_≡_};
+ghost use mathlib.Core.Bool.{true, not};
 ghost use lib.ListN.{length};
 ghost use Rattle.rules.specs.Bytes.{put};
-ghost use Rattle.rules.specs.Units.{unitOf};
-ghost use Rattle.rules.specs.Refusals.{editAllowed, isFilling, isInserted, keepsModel};
-ghost use Rattle.units.specs.Decoded.{decoded, modelRead, bytesFit, unitWith, mayBecome, opened, movedTo, readMoved};
+ghost use Rattle.rules.specs.Units.{modelFormed, unitOf, wellFormed};
+ghost use Rattle.rules.specs.Refusals.{editAllowed, isFilling, isInserted, keepsModel, pastStageZero};
+ghost use Rattle.rules.specs.Effects.{advanced, inserted, readOnly};
+ghost use Rattle.units.specs.Decoded.{decoded, modelRead};
 use rules::KeyStage;
 use rules::Model;
 use rules::Stage;
@@ -25,7 +27,7 @@ enum ModelRead {
 }
 
 fn known(fits: bool, model: Model) -> ModelRead
-    ensures { λ r. ⌜ r ≡ Rattle.units.specs.Decoded.known fits model ⌝ }
+    ensures { λ r. ⌜ r ≡ modelRead fits model ⌝ }
 {
     if fits {
         ModelRead::Known(model)
@@ -35,14 +37,17 @@ fn known(fits: bool, model: Model) -> ModelRead
 }
 
 // The model that byte 1 names, with M, RD and WR in the control byte. The stage stands in the high four bits.
-fn model_of(control: u8, byte: u8) -> ModelRead
-    ensures { λ r. ⌜ r ≡ modelRead control byte ⌝ }
+fn model_of(unit: &[u8]) -> ModelRead
+    requires { ⌜ length (now unit) ≡ 32 ⌝ }
+    ensures { λ r. ⌜ r ≡ modelRead (modelFormed (now (unit .entry))) (unitOf (now (unit .entry)) .model) ⌝ }
 {
+    let control = unit[0];
     if control % 2 != 1 {
         return ModelRead::Known(Model::Default);
     }
     let rd = control / 128 % 2 == 1;
     let wr = control / 32 % 2 == 1;
+    let byte = unit[1];
     match byte {
         0x00 => ModelRead::Known(Model::Default),
         0x01 => known((rd & !wr) | (!rd & wr), Model::WriteOnce),
@@ -56,10 +61,10 @@ fn model_of(control: u8, byte: u8) -> ModelRead
     }
 }
 
-// The tests of a well-formed unit that do not ask for its model: RFU, the zero bytes, the indexes.
-fn bytes_fit(unit: &[u8]) -> bool
-    requires { ⌜ length (now unit) ≡ 32 ⌝ }
-    ensures { λ r. ⌜ r ≡ bytesFit (now (unit .entry)) ⌝ }
+// Whether a unit is well formed, if its model is: RFU, the zero bytes, the indexes.
+fn well_formed(unit: &[u8]) -> bool
+    requires { ⌜ (length (now unit) ≡ 32) × (modelFormed (now unit) ≡ true) ⌝ }
+    ensures { λ r. ⌜ r ≡ wellFormed (now (unit .entry)) ⌝ }
 {
     (unit[0] / 2 % 2 != 1)
         & octets::all_zero(&unit[2..4])
@@ -69,9 +74,10 @@ fn bytes_fit(unit: &[u8]) -> bool
         & octets::all_zero(&unit[10..16])
 }
 
-fn unit_with(unit: &[u8], model: Model) -> Unit
-    requires { ⌜ length (now unit) ≡ 32 ⌝ }
-    ensures { λ r. ⌜ r ≡ unitWith (now (unit .entry)) model ⌝ }
+// The unit of these bytes, whose model this is.
+fn unit_of(unit: &[u8], model: Model) -> Unit
+    requires { ⌜ (length (now unit) ≡ 32) × (model ≡ unitOf (now unit) .model) ⌝ }
+    ensures { λ r. ⌜ r ≡ unitOf (now (unit .entry)) ⌝ }
 {
     let control = unit[0];
     Unit {
@@ -93,13 +99,13 @@ pub fn decode(unit: &[u8]) -> Decoded
     requires { ⌜ length (now unit) ≡ 32 ⌝ }
     ensures { λ r. ⌜ r ≡ decoded (now (unit .entry)) ⌝ }
 {
-    if !bytes_fit(unit) {
-        return Decoded::Malformed;
-    }
-    let ModelRead::Known(model) = model_of(unit[0], unit[1]) else {
+    let ModelRead::Known(model) = model_of(unit) else {
         return Decoded::Malformed;
     };
-    Decoded::Unit(unit_with(unit, model))
+    if !well_formed(unit) {
+        return Decoded::Malformed;
+    }
+    Decoded::Unit(unit_of(unit, model))
 }
 
 // Whether M, RD, WR and byte 1 stay.
@@ -115,7 +121,7 @@ fn keeps_model(old: &[u8], new: &[u8]) -> bool
 
 // Whether an edit may bring a unit to this model: of models 3 and 4 only to their stage 0.
 fn may_become(model: Model) -> bool
-    ensures { λ r. ⌜ r ≡ mayBecome model ⌝ }
+    ensures { λ r. ⌜ r ≡ not (pastStageZero model) ⌝ }
 {
     match model {
         Model::Receiver(stage) => match stage {
@@ -134,7 +140,7 @@ fn may_become(model: Model) -> bool
 // Whether an edit may turn a unit of this model, with bytes `old`, into `new`.
 pub fn edit_allowed(model: Model, old: &[u8], new: &[u8]) -> bool
     requires { ⌜ (length (now old) ≡ 32) × (length (now new) ≡ 32) ⌝ }
-    ensures { λ r. ⌜ (model ≡ unitOf (now (old .entry)) .model → r ≡ editAllowed (now (old .entry)) (now (new .entry))) ⌝ }
+    ensures { λ r. ⌜ r ≡ editAllowed model (now (old .entry)) (now (new .entry)) ⌝ }
 {
     let Decoded::Unit(unit) = decode(new) else {
         return false;
@@ -146,9 +152,9 @@ pub fn edit_allowed(model: Model, old: &[u8], new: &[u8]) -> bool
     keeps_model(old, new)
 }
 
-// The control byte with WR cleared and RD set.
+// The control byte with RD set and WR cleared.
 pub fn read_only(control: u8) -> u8
-    ensures { λ r. ⌜ r ≡ opened control ⌝ }
+    ensures { λ r. ⌜ r ≡ readOnly control ⌝ }
 {
     128 + 64 * (control / 64 % 2) + control % 32
 }
@@ -156,7 +162,7 @@ pub fn read_only(control: u8) -> u8
 // A unit of model 3 goes from this stage to the next.
 pub fn advance(unit: &mut [u8], stage: Stage)
     requires { ⌜ length (now unit) ≡ 32 ⌝ }
-    ensures { λ _. ⌜ now (unit .exit) ≡ put 0 (movedTo stage (now (unit .entry))) (now (unit .entry)) ⌝ }
+    ensures { λ _. ⌜ now (unit .exit) ≡ put 0 (advanced stage (now (unit .entry))) (now (unit .entry)) ⌝ }
 {
     match stage {
         Stage::Zero => {
@@ -199,7 +205,7 @@ pub fn is_inserted(model: Model) -> bool
 // A unit of model 4 goes from stage 0 to stage 1, and is read only from then on.
 pub fn insert(unit: &mut [u8])
     requires { ⌜ length (now unit) ≡ 32 ⌝ }
-    ensures { λ _. ⌜ now (unit .exit) ≡ put 0 (readMoved (now (unit .entry))) (now (unit .entry)) ⌝ }
+    ensures { λ _. ⌜ now (unit .exit) ≡ put 0 (inserted (now (unit .entry))) (now (unit .entry)) ⌝ }
 {
     unit[0] = read_only(unit[0]);
     unit[1] = 0x14;

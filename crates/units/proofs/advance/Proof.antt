@@ -1,5 +1,5 @@
 -- `units::advance` meets its contract. Assumes nothing.
-use Rattle.units.specs.Decoded.{movedTo}
+use Rattle.rules.specs.Effects.{advanced}
 use Rattle.octets.proofs.Laws.{put-two}
 use Rattle.units.proofs.Laws.{put-second, put-neither}
 use borrow.Author.Needs.{needs}
@@ -34,18 +34,18 @@ same-length : tie.Need-same-length
 same-length c = search needs
 
 returns : tie.Need-returns
-unfolding movedTo
+unfolding advanced
 returns c = rw (c .enum-told .given .1) (put-second (c .before .before .before .args .unit .now) 0x13)
 
 same-length-2 : tie.Need-same-length-2
 same-length-2 c = search needs
 
 returns-2 : tie.Need-returns-2
-unfolding movedTo
+unfolding advanced
 returns-2 c = rw (c .before .before .enum-told2 .given .1, c .read-only .ensures, ← put-two)
 
 returns-3 : tie.Need-returns-3
-unfolding movedTo
+unfolding advanced
 returns-3 c = rw (c .enum-told3 .given .1) (put-neither _)
 
 pub advance-spec : {M : Type 1} → statement M

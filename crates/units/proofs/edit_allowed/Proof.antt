@@ -16,7 +16,7 @@ enum-told : tie.Need-enum-told
 enum-told c = search needs
 
 returns : tie.Need-returns
-returns c = λ e. sym (edit-malformed _ _ (sym (c .before .before .decode .ensures) ∙ c .enum-told .given .1))
+returns c = sym (edit-malformed _ _ _ (sym (c .before .before .decode .ensures) ∙ c .enum-told .given .1))
 
 enum-told-2 : tie.Need-enum-told-2
 enum-told-2 c = search needs
@@ -26,11 +26,10 @@ may-become-requires c κs = search needs
 
 returns-2 : tie.Need-returns-2
 returns-2 c =
-    λ e.
     let at = c .before .before .before in
     c .may-become .ensures
-    ∙ sym (edit-allowed-is _ _ _ (sym (at .before .before .decode .ensures) ∙ at .unit .given .1)
-    ∙ rw (sym e, no-receiver _ (c .before .match2 .keys2)))
+    ∙ sym (edit-allowed-is _ _ _ _ (sym (at .before .before .decode .ensures) ∙ at .unit .given .1)
+    ∙ rw (no-receiver _ (c .before .match2 .keys2)))
 
 keeps-model-requires : tie.Need-keeps-model-requires
 keeps-model-requires c κs = search needs
@@ -38,11 +37,10 @@ keeps-model-requires c κs = search needs
 returns-3 : tie.Need-returns-3
 unfolding isReceiver
 returns-3 c =
-    λ e.
     let at = c .before .before .before .before in
     c .keeps-model .ensures
-    ∙ sym (edit-allowed-is _ _ _ (sym (at .before .before .decode .ensures) ∙ at .unit .given .1)
-    ∙ rw (sym e, c .before .enum-told2 .given .1))
+    ∙ sym (edit-allowed-is _ _ _ _ (sym (at .before .before .decode .ensures) ∙ at .unit .given .1)
+    ∙ rw (c .before .enum-told2 .given .1))
 
 pub edit-allowed-spec : {M : Type 1} → statement M
 edit-allowed-spec =

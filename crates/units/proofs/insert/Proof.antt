@@ -1,5 +1,5 @@
 -- `units::insert` meets its contract. Assumes nothing.
-use Rattle.units.specs.Decoded.{readMoved}
+use Rattle.rules.specs.Effects.{inserted}
 use Rattle.octets.proofs.Laws.{put-two}
 use borrow.Author.Needs.{needs}
 use Rattle.units.proofs.insert.Statement.{statement}
@@ -21,7 +21,7 @@ same-length : tie.Need-same-length
 same-length c = search needs
 
 returns : tie.Need-returns
-unfolding readMoved
+unfolding inserted
 returns c = rw (c .read-only .ensures, ← put-two)
 
 pub insert-spec : {M : Type 1} → statement M

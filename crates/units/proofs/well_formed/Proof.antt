@@ -1,10 +1,10 @@
--- `units::bytes_fit` meets its contract. Assumes nothing.
+-- `units::well_formed` meets its contract. Assumes nothing.
 use Rattle.rules.specs.Bytes.{part}
 use Rattle.rules.specs.Units.{bit}
-use Rattle.units.specs.Decoded.{bytesFit}
+use Rattle.units.proofs.Laws.{well-formed-but-model}
 use borrow.Author.Needs.{needs}
-use Rattle.units.proofs.bytes_fit.Statement.{statement}
-use Rattle.units.proofs.bytes_fit.Tie as tie
+use Rattle.units.proofs.well_formed.Statement.{statement}
+use Rattle.units.proofs.well_formed.Tie as tie
 
 shared-slice-read-result : tie.Need-shared-slice-read-result
 shared-slice-read-result c = search needs
@@ -43,11 +43,13 @@ all-zero-requires-2 : tie.Need-all-zero-requires-2
 all-zero-requires-2 c κs = search needs
 
 returns : tie.Need-returns
-unfolding bytesFit bit part
-returns c = cc
+unfolding bit part
+returns c =
+    let start = c .before .before .before .before .before .before .before .before .before in
+    rw (well-formed-but-model _ (start .pre .1)) (cc)
 
-pub bytes-fit-spec : {M : Type 1} → statement M
-bytes-fit-spec =
+pub well-formed-spec : {M : Type 1} → statement M
+well-formed-spec =
     tie.close
     (tie.spec
     shared-slice-read-result

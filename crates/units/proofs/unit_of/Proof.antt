@@ -1,9 +1,8 @@
--- `units::unit_with` meets its contract. Assumes nothing.
-use Rattle.rules.specs.Units.{bit}
-use Rattle.units.specs.Decoded.{unitWith}
+-- `units::unit_of` meets its contract. Assumes nothing.
+use Rattle.rules.specs.Units.{bit, unitOf}
 use borrow.Author.Needs.{needs}
-use Rattle.units.proofs.unit_with.Statement.{statement}
-use Rattle.units.proofs.unit_with.Tie as tie
+use Rattle.units.proofs.unit_of.Statement.{statement}
+use Rattle.units.proofs.unit_of.Tie as tie
 
 shared-slice-read-control : tie.Need-shared-slice-read-control
 shared-slice-read-control c = search needs
@@ -18,11 +17,13 @@ number16-requires-3 : tie.Need-number16-requires-3
 number16-requires-3 c κs = search needs
 
 returns : tie.Need-returns
-unfolding unitWith bit
-returns c = cc
+unfolding unitOf bit
+returns c =
+    let read = c .before .before in
+    rw (read .before .before .before .pre .1, read .number16 .ensures, c .before .number162 .ensures, c .number163 .ensures)
 
-pub unit-with-spec : {M : Type 1} → statement M
-unit-with-spec =
+pub unit-of-spec : {M : Type 1} → statement M
+unit-of-spec =
     tie.close
     (tie.spec
     shared-slice-read-control
