@@ -1,6 +1,7 @@
--- The laws that the functions of `command_log` cite: the kind of a byte, and bodies whole and short. Assumes nothing.
-use Prim.Native.Nat.{ℕ, _+_, _-_, _≤_, _<_}
-use mathlib.Core.Path.{_≡_, refl}
+-- The laws that the functions of `command_log` cite: the kind of a byte, whole and short bodies, and the code of a count.
+-- Assumes nothing.
+use Prim.Native.Nat.{ℕ, zero, suc, _+_, _-_, _≤_, _<_}
+use mathlib.Core.Path.{_≡_, refl, ap, _∙_}
 use mathlib.Core.Logic.{_≢_}
 use mathlib.Core.List.{List, [], _∷_}
 use mathlib.Core.Option.{Option, none, some}
@@ -8,12 +9,10 @@ use native.Mathlib.Omega.{arith}
 use lib.ListN.{length, drop, length-drop}
 use borrow.Author.Tests.{ne-eqb, le-leb, lt-leb}
 use Rattle.rules.specs.Bytes.{byte}
-use Rattle.rules.specs.Log.{Kind, kinds, kindIn, bodyLength, commandOf, wholeOf, first}
+use Rattle.rules.specs.Log.{Kind, reads, writes, countOf, kinds, kindIn, bodyLength, wholeOf, first, readCode}
 use Rattle.command_log.specs.declared.Next.{Next}
 use Rattle.command_log.specs.declared.Next.the-variants.{Unreadable}
-use Rattle.command_log.specs.Next.{commandAt, lengthOf, Counted, ComesNext, OfKind, otherKinds}
-
--- ---- the kind of a byte
+use Rattle.command_log.specs.Next.{kindOf, lengthOf, commandBy, ComesNext}
 
 -- a byte that is none of these kinds
 abbrev pub NoneOf : List (ℕ × Kind) → ℕ → Type 0
@@ -25,52 +24,63 @@ unfolding kindIn
 no-kind [] b n = refl
 no-kind (k ∷ ks) b n = rw (ne-eqb b (k .0) (n .0)) (no-kind ks b (n .1))
 
--- a byte that begins no read and no write
-abbrev pub Uncounted : ℕ → Type 0
-Uncounted b =
-    (b ≢ 0x11) × (b ≢ 0x12) × (b ≢ 0x13) × (b ≢ 0x14) × (b ≢ 0x21) × (b ≢ 0x22) × (b ≢ 0x23) × (b ≢ 0x24)
-
-pub other-kind : (b : ℕ) → Uncounted b → kindIn kinds b ≡ kindIn otherKinds b
+-- the kinds that have this last digit
+pub counted-kinds : (d : ℕ) → 1 ≤ d → d ≤ 4
+    → (kindIn kinds (0x10 + d) ≡ some (reads (countOf d))) × (kindIn kinds (0x20 + d) ≡ some (writes (countOf d)))
 unfolding kindIn kinds
-other-kind b n =
-    rw (
-      ne-eqb b 0x11 (n .0),
-      ne-eqb b 0x12 (n .1),
-      ne-eqb b 0x13 (n .2),
-      ne-eqb b 0x14 (n .3),
-      ne-eqb b 0x21 (n .4),
-      ne-eqb b 0x22 (n .5),
-      ne-eqb b 0x23 (n .6),
-      ne-eqb b 0x24 (n .7),
-    )
-
--- what comes next is decided by the kind of the byte
-pub by-kind : (log : List ℕ) (at : ℕ) (k : Option Kind) (x : Next) → kindIn kinds (byte at log) ≡ k → OfKind k log at x
-    → ComesNext log at x
-unfolding first
-by-kind log at k x e o = record { command = rw e (o .command); counted = o .counted; whole = o .whole }
+counted-kinds zero l h = absurd (omega arith)
+counted-kinds (suc zero) l h = (refl, refl)
+counted-kinds (suc (suc zero)) l h = (refl, refl)
+counted-kinds (suc (suc (suc zero))) l h = (refl, refl)
+counted-kinds (suc (suc (suc (suc zero)))) l h = (refl, refl)
+counted-kinds (suc (suc (suc (suc (suc d))))) l h = absurd (omega arith)
 
 -- ---- the body
 
--- a body that is whole gives its kind's command
-pub whole-body : (k : Kind) (log : List ℕ) (at : ℕ) (x : Next)
-    → commandAt log at x ≡ some (commandOf k (drop (at + 1) log), bodyLength k) → Counted x
-    → lengthOf x ≡ 1 + bodyLength k → at + lengthOf x ≤ length log → OfKind (some k) log at x
+-- a whole one gives its kind's command
+whole-body : (k : Option Kind) (body : List ℕ) → lengthOf k ≤ 1 + length body → commandBy k body ≡ wholeOf k body
 unfolding wholeOf
-whole-body k log at x e n l h =
-    record {
-      command = rw (le-leb (bodyLength k) (length (drop (at + 1) log)) (simp length-drop (omega arith))) e;
-      counted = n;
-      whole = h;
-    }
+whole-body none body h = refl
+whole-body (some k) body h = rw (le-leb (bodyLength k) (length body) (omega arith))
 
--- a short one is a 15
-pub short-body : (k : Kind) (log : List ℕ) (at : ℕ) → at < length log → length log - at < 1 + bodyLength k
-    → OfKind (some k) log at Unreadable
+-- a short one none
+short-body : (k : Option Kind) (body : List ℕ) → 1 + length body < lengthOf k → none ≡ wholeOf k body
 unfolding wholeOf
-short-body k log at l h =
-    record {
-      command = rw (lt-leb (bodyLength k) (length (drop (at + 1) log)) (simp length-drop (omega arith)));
-      counted = tt;
-      whole = omega arith;
-    }
+short-body none body h = absurd (omega arith)
+short-body (some k) body h = rw (lt-leb (bodyLength k) (length body) (omega arith))
+
+module _ (log : List ℕ) (at : ℕ) (x : Next) (there : at < length log) (its-kind : kindOf x ≡ kindIn kinds (byte at log)) where
+  pub comes-whole : lengthOf (kindOf x) ≤ length log - at → ComesNext log at x
+  unfolding first
+  comes-whole h =
+      record {
+        command = whole-body (kindOf x) (drop (at + 1) log) (simp length-drop (omega arith)) ∙ ap (λ k. wholeOf k (drop (at + 1) log)) its-kind;
+        whole = omega arith;
+      }
+
+  pub comes-short : length log - at < lengthOf (kindOf x) → ComesNext log at Unreadable
+  unfolding first
+  comes-short h =
+      record {
+        command = short-body (kindOf x) (drop (at + 1) log) (simp length-drop (omega arith)) ∙ ap (λ k. wholeOf k (drop (at + 1) log)) its-kind;
+        whole = omega arith;
+      }
+
+-- ---- a digit that has a count is that of the count's code
+
+pub code-of : (d : ℕ) → 1 ≤ countOf d → (0x40 + d ≡ readCode (countOf d)) × (d ≤ 4)
+unfolding countOf readCode
+code-of zero h = absurd (omega arith)
+code-of (suc zero) h = (refl, omega arith)
+code-of (suc (suc zero)) h = (refl, omega arith)
+code-of (suc (suc (suc zero))) h = (refl, omega arith)
+code-of (suc (suc (suc (suc zero)))) h = (refl, omega arith)
+code-of (suc (suc (suc (suc (suc d))))) h =
+    let z : countOf (suc (suc (suc (suc (suc d))))) ≡ 0 =
+    rw (
+      ne-eqb (suc (suc (suc (suc (suc d))))) 1 (omega arith),
+      ne-eqb (suc (suc (suc (suc (suc d))))) 2 (omega arith),
+      ne-eqb (suc (suc (suc (suc (suc d))))) 3 (omega arith),
+      ne-eqb (suc (suc (suc (suc (suc d))))) 4 (omega arith),
+    ) in
+    absurd (omega arith)

@@ -1,96 +1,67 @@
 // The command log: document 01, "The command log". What comes next, the room that its reply needs, and the bytes of
 // replies. The definitions behind the contracts are in `rules`, Log.antt.
 ghost use mathlib.Core.Path.{_≡_};
-ghost use mathlib.Core.Option.{some};
-ghost use Prim.Native.Nat.{_≤_, _<_};
+ghost use Prim.Native.Nat.{ℕ, _≤_, _<_};
+ghost use mathlib.Core.List.{List};
 ghost use lib.ListN.{length};
 ghost use Rattle.rules.specs.Bytes.{put};
 ghost use Rattle.rules.specs.Answers.{numberOf};
 ghost use Rattle.rules.specs.Command.{done};
-ghost use Rattle.rules.specs.Log.{reads, writes, advances, inserts, kindIn, encoded, readCode};
+ghost use Rattle.rules.specs.Log.{countOf, kinds, kindIn, encoded};
 ghost use Rattle.rules.specs.Calls.{replyOf};
-ghost use Rattle.command_log.specs.Next.{ComesNext, OfKind, otherKinds, Counts, Counted, lengthOf, roomOf, readHead, readLength};
+ghost use Rattle.command_log.specs.Next.{ComesNext, kindOf, commandAt, lengthOf, roomAsked, readHead, readLength};
 use rules::Answer;
 use rules::Refusal;
 
-// What comes next in a log.
+// What comes next in a log, by its kind. A read and a write have the last digit of theirs, which tells their count.
 pub enum Next {
     PowerUp,
-    // The address and the count.
-    Read(usize, usize),
-    // The same. The data are the last bytes of the body.
-    Write(usize, usize),
-    Advance(usize),
-    // The segment. The id are the last 16 bytes of the body.
-    Insert(usize),
+    Read(u8),
+    Write(u8),
+    Advance,
+    Insert,
     // A 15: an unknown kind or a short body.
     Unreadable,
 }
 
-// "11, 12, 13, 14 read 1, 8, 16, 32 bytes .. 21, 22, 23, 24 write as many": the count, by a kind's last digit.
-fn count_of(digit: u8) -> usize
-    requires { ⌜ (1 ≤ digit) × (digit ≤ 4) ⌝ }
-    ensures { λ r. ⌜ Counts digit r ⌝ }
+// "11, 12, 13, 14 read 1, 8, 16, 32 bytes .. 21, 22, 23, 24 write as many .. 41 to 44 with the data": the count, by the last
+// digit.
+pub fn count_of(digit: u8) -> usize
+    ensures { λ r. ⌜ (r ≡ countOf digit) × (r ≤ 32) ⌝ }
 {
     match digit {
         1 => 1,
         2 => 8,
         3 => 16,
-        _ => 32,
+        4 => 32,
+        _ => 0,
     }
 }
 
-// A command of a known kind, or a short body.
-fn next_read(log: &[u8], at: usize, count: usize) -> Next
-    requires { ⌜ (at < length (now log)) × (1 ≤ count) × (count ≤ 32) ⌝ }
-    ensures { λ r. ⌜ OfKind (some (reads count)) (now (log .entry)) at r ⌝ }
+fn kind_of(byte: u8) -> Next
+    ensures { λ r. ⌜ kindOf r ≡ kindIn kinds byte ⌝ }
 {
-    if log.len() - at < 5 {
-        return Next::Unreadable;
-    }
-    Next::Read(octets::number32(log, at + 1), count)
-}
-
-fn next_write(log: &[u8], at: usize, count: usize) -> Next
-    requires { ⌜ (at < length (now log)) × (1 ≤ count) × (count ≤ 32) ⌝ }
-    ensures { λ r. ⌜ OfKind (some (writes count)) (now (log .entry)) at r ⌝ }
-{
-    if log.len() - at < 5 + count {
-        return Next::Unreadable;
-    }
-    Next::Write(octets::number32(log, at + 1), count)
-}
-
-fn next_advance(log: &[u8], at: usize) -> Next
-    requires { ⌜ at < length (now log) ⌝ }
-    ensures { λ r. ⌜ OfKind (some advances) (now (log .entry)) at r ⌝ }
-{
-    if log.len() - at < 3 {
-        return Next::Unreadable;
-    }
-    Next::Advance(octets::number16(log, at + 1))
-}
-
-fn next_insert(log: &[u8], at: usize) -> Next
-    requires { ⌜ at < length (now log) ⌝ }
-    ensures { λ r. ⌜ OfKind (some inserts) (now (log .entry)) at r ⌝ }
-{
-    if log.len() - at < 19 {
-        return Next::Unreadable;
-    }
-    Next::Insert(octets::number16(log, at + 1))
-}
-
-// What is neither a read nor a write. It stands by itself, so that these two are found without its tests.
-fn next_other(log: &[u8], at: usize, kind: u8) -> Next
-    requires { ⌜ at < length (now log) ⌝ }
-    ensures { λ r. ⌜ OfKind (kindIn otherKinds kind) (now (log .entry)) at r ⌝ }
-{
-    match kind {
+    match byte {
         0x00 => Next::PowerUp,
-        0x31 => next_advance(log, at),
-        0x32 => next_insert(log, at),
+        0x11..=0x14 => Next::Read(byte - 0x10),
+        0x21..=0x24 => Next::Write(byte - 0x20),
+        0x31 => Next::Advance,
+        0x32 => Next::Insert,
         _ => Next::Unreadable,
+    }
+}
+
+// The bytes that it takes; a 15 takes none.
+pub fn length_of(next: Next) -> usize
+    ensures { λ r. ⌜ r ≡ lengthOf (kindOf next) ⌝ }
+{
+    match next {
+        Next::PowerUp => 1,
+        Next::Read(_) => 5,
+        Next::Write(digit) => 5 + count_of(digit),
+        Next::Advance => 3,
+        Next::Insert => 19,
+        Next::Unreadable => 0,
     }
 }
 
@@ -99,36 +70,19 @@ pub fn next_at(log: &[u8], at: usize) -> Next
     requires { ⌜ at < length (now log) ⌝ }
     ensures { λ r. ⌜ ComesNext (now (log .entry)) at r ⌝ }
 {
-    let kind = log[at];
-    match kind {
-        0x11..=0x14 => next_read(log, at, count_of(kind - 0x10)),
-        0x21..=0x24 => next_write(log, at, count_of(kind - 0x20)),
-        _ => next_other(log, at, kind),
+    let next = kind_of(log[at]);
+    if log.len() - at < length_of(next) {
+        return Next::Unreadable;
     }
+    next
 }
 
-// The bytes that it takes; a 15 takes none.
-pub fn length_of(next: Next) -> usize
-    requires { ⌜ Counted next ⌝ }
-    ensures { λ r. ⌜ r ≡ lengthOf next ⌝ }
-{
-    match next {
-        Next::PowerUp => 1,
-        Next::Read(_, _) => 5,
-        Next::Write(_, count) => 5 + count,
-        Next::Advance(_) => 3,
-        Next::Insert(_) => 19,
-        Next::Unreadable => 0,
-    }
-}
-
-// The room that its reply must find.
+// The room that its reply must find, wherever it stands in a log.
 pub fn room_of(next: Next) -> usize
-    requires { ⌜ Counted next ⌝ }
-    ensures { λ r. ⌜ r ≡ roomOf next ⌝ }
+    ensures { λ r. ⌜ ((log : List ℕ) (at : ℕ) → r ≡ roomAsked (commandAt log at next)) ⌝ }
 {
-    if let Next::Read(_, count) = next {
-        return 1 + count;
+    if let Next::Read(digit) = next {
+        return 1 + count_of(digit);
     }
     2
 }
@@ -153,7 +107,6 @@ pub fn number_of(refusal: Refusal) -> u8
         Refusal::BadEdit => 13,
         Refusal::OtherModel => 14,
         Refusal::Unreadable => 15,
-        Refusal::NoRoom => 16,
         Refusal::Repeated => 18,
         Refusal::BadInsertion => 19,
     }
@@ -178,26 +131,15 @@ pub fn put_answer(output: &mut [u8], answer: Answer) -> usize
     }
 }
 
-fn read_code(count: usize) -> u8
-    ensures { λ r. ⌜ r ≡ readCode count ⌝ }
-{
-    match count {
-        1 => 0x41,
-        8 => 0x42,
-        16 => 0x43,
-        _ => 0x44,
-    }
-}
-
 // The reply to a read, whose bytes stand behind the first of the output already: its code, or the refusal.
-pub fn put_read(output: &mut [u8], answer: Answer, count: usize) -> usize
-    requires { ⌜ (2 ≤ length (now output)) × (count ≤ 32) ⌝ }
-    ensures { λ _. ⌜ now (output .exit) ≡ put 0 (readHead answer count) (now (output .entry)) ⌝ }
-    ensures { λ r. ⌜ r ≡ readLength answer count ⌝ }
+pub fn put_read(output: &mut [u8], answer: Answer, digit: u8) -> usize
+    requires { ⌜ (2 ≤ length (now output)) × (1 ≤ countOf digit) ⌝ }
+    ensures { λ _. ⌜ now (output .exit) ≡ put 0 (readHead answer (countOf digit)) (now (output .entry)) ⌝ }
+    ensures { λ r. ⌜ r ≡ readLength answer (countOf digit) ⌝ }
 {
     if let Answer::Done = answer {
-        output[0] = read_code(count);
-        return 1 + count;
+        output[0] = 0x40 + digit;
+        return 1 + count_of(digit);
     }
     put_answer(output, answer)
 }
