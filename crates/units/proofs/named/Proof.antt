@@ -1,9 +1,9 @@
--- `commands::named` meets its contract. Assumes nothing.
+-- `units::named` meets its contract. Assumes nothing.
 use Rattle.rules.specs.Bytes.{part}
 use Rattle.rules.specs.Units.{nameOf}
 use borrow.Author.Needs.{needs}
-use Rattle.commands.proofs.named.Statement.{statement}
-use Rattle.commands.proofs.named.Tie as tie
+use Rattle.units.proofs.named.Statement.{statement}
+use Rattle.units.proofs.named.Tie as tie
 
 sub-equal : tie.Need-sub-equal
 sub-equal c = search needs

@@ -1,8 +1,8 @@
--- `commands::judge_rights` meets its contract: test by test. Assumes nothing.
+-- `units::judge_rights` meets its contract: test by test. Assumes nothing.
 use mathlib.Core.Path.{sym, _∙_}
 use Rattle.rules.proofs.Tests.{gives, leaves, none-applies}
-use Rattle.commands.proofs.judge_rights.Statement.{statement}
-use Rattle.commands.proofs.judge_rights.Tie as tie
+use Rattle.units.proofs.judge_rights.Statement.{statement}
+use Rattle.units.proofs.judge_rights.Tie as tie
 
 returns : tie.Need-returns
 returns c = sym (gives 6 _ _ (c .if1 .taken))
