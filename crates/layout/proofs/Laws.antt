@@ -11,7 +11,7 @@ use borrow.Author.Tests.{ltb-true, not-false}
 use borrow.Rule.Slice.PartMut.{putMid, midOf}
 use Rattle.rules.specs.declared.Place.{Place}
 use Rattle.rules.specs.declared.Place.the-variants.{UnitOf, Segment}
-use Rattle.rules.specs.Bytes.{put}
+use Rattle.rules.specs.Bytes.{part, put}
 use Rattle.rules.specs.Map.{sound, segments, publics, placeOf, unitAt, segmentAt}
 use Rattle.rules.specs.Units.{unitBytes}
 use Rattle.rules.proofs.BytesLaws.{length-put}
@@ -62,14 +62,14 @@ segment-offset t p k a n w e l f =
 
 -- ---- a unit that is lent, and comes back with data stored at an offset
 
-pub unit-lent : (t : List ℕ) (k : ℕ) → midOf (unitAt k) (unitAt k + 32 - unitAt k) t ≡ unitBytes t k
+pub unit-lent : (t : List ℕ) (k a : ℕ) → a ≡ unitAt k → midOf a (a + 32 - a) t ≡ unitBytes t k
 unfolding unitBytes
-unit-lent t k = part-lent (unitAt k) 32 t
+unit-lent t k a f = rw f (part-lent (unitAt k) 32 t)
 
-pub unit-back : (t : List ℕ) (k o p : ℕ) (bs ys : List ℕ) → unitAt k + 32 ≤ length t → unitAt k + o ≡ p
-    → o + length bs ≤ 32 → ys ≡ put o bs (unitBytes t k)
-    → putMid (unitAt k) (unitAt k + 32 - unitAt k) t ys ≡ put p bs t
+pub unit-back : (t : List ℕ) (k a o p : ℕ) (bs ys : List ℕ) → a ≡ unitAt k → unitAt k + 32 ≤ length t → a + o ≡ p
+    → o + length bs ≤ 32 → ys ≡ put o bs (unitBytes t k) → putMid a (a + 32 - a) t ys ≡ put p bs t
 unfolding unitBytes
-unit-back t k o p bs ys i e h q =
-    put-back (unitAt k) 32 t ys _ q (length-put o bs _ ∙ length-lent (unitAt k) 32 t i) i
-    ∙ put-inside (unitAt k) 32 o p bs t e h
+unit-back t k a o p bs ys f i e h q =
+    let r : ys ≡ put o bs (part a 32 t) = rw f q in
+    put-back a 32 t ys _ r (length-put o bs _ ∙ length-lent a 32 t (omega arith)) (omega arith)
+    ∙ put-inside a 32 o p bs t e h
