@@ -2,8 +2,9 @@
 use mathlib.Core.Path.{sym, _∙_}
 use borrow.Author.Tests.{not-true, not-false}
 use Rattle.rules.specs.State.{state}
+use Rattle.xxtea.specs.Block.{E}
 use Rattle.rules.specs.Command.{write}
-use Rattle.writes.proofs.ActLaws.{unsound}
+use Rattle.rules.proofs.Unsound.{unsound}
 use borrow.Author.Needs.{needs}
 use Rattle.writes.proofs.write.Statement.{statement}
 use Rattle.writes.proofs.write.Tie as tie
@@ -13,7 +14,7 @@ returns c =
     let start = c .before .before .before in
     let a = start .args in
     let n = sym (start .pre) ∙ not-true _ (c .if1 .taken) in
-    unsound (state (a .tag .now) (a .session)) (write (a .address) (a .«data» .now)) tt n
+    unsound E (state (a .tag .now) (a .session)) (write (a .address) (a .«data» .now)) tt n
 
 write-sound-requires : tie.Need-write-sound-requires
 write-sound-requires c κs = sym (c .before .before .before .before .pre) ∙ not-false _ (c .before .if1 .left)
