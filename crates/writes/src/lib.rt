@@ -48,7 +48,13 @@ fn write_sound(tag: &mut [u8], session: Session, at: usize, data: &[u8]) -> Outc
 }
 
 // A write on any bytes whatever. The caller has tested whether the tag is sound.
-pub fn write(tag: &mut [u8], is_sound: bool, session: Session, address: usize, data: &[u8]) -> Outcome
+pub fn write(
+    tag: &mut [u8],
+    is_sound: bool,
+    session: Session,
+    address: usize,
+    data: &[u8],
+) -> Outcome
     requires { ⌜ «is_sound» ≡ sound (now tag) ⌝ }
     ensures { λ r. ⌜ CarriedOut E (state (now (tag .entry)) session) (command.write address (now («data» .entry))) (now (tag .exit)) r ⌝ }
 {
