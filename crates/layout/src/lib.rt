@@ -2,20 +2,35 @@
 // cite are in `rules`, Map.antt.
 ghost use mathlib.Core.Path.{_≡_};
 ghost use mathlib.Core.Bool.{true};
-ghost use Prim.Native.Nat.{ℕ, _+_, _%_, _≤_, _<_};
+ghost use Prim.Native.Nat.{ℕ, _+_, _%_, _^_, _≤_, _<_};
 ghost use lib.ListN.{length};
 ghost use Rattle.rules.specs.Map.{segments, publics, most, segmentsAt, sound, unitAt, rows, registerNo, find, placeOf};
 ghost use Rattle.rules.specs.Units.{unitBytes};
 ghost use Rattle.rules.specs.Hosts.{readers};
-ghost use Rattle.layout.specs.Found.{found, foundIf, countsFit, restFits};
+ghost use Rattle.layout.specs.Found.{found, foundIf};
 use rules::Place;
 use rules::Register;
+
+// The address of the usage flag.
+pub const FLAG: usize = 12;
+
+// The address of owner PIN 0, where the header ends.
+pub const OWNERS: usize = 16;
+
+// The address of the first register.
+const REGISTERS: usize = 3984;
+
+// The address of PIN 0, where the registers end.
+pub const PINS: usize = 4096;
 
 // The address of the reader ID segment.
 pub const READERS: usize = 8192;
 
 // The address of unit 0, where the reader ID segment ends.
 pub const UNITS: usize = 12288;
+
+// The most segments of either kind.
+const MOST: usize = 128;
 
 // The place that holds a range of addresses, if one does.
 pub enum Found {
@@ -47,12 +62,20 @@ pub fn readers(tag: &[u8]) -> &[u8]
     &tag[READERS..UNITS]
 }
 
+// The address of unit k.
+pub fn unit_at(k: usize) -> usize
+    requires { ⌜ unitAt k < 2 ^ 64 ⌝ }
+    ensures { λ r. ⌜ r ≡ unitAt k ⌝ }
+{
+    UNITS + 32 * k
+}
+
 // The 32 bytes of unit k.
 pub fn unit_of(tag: &[u8], k: usize) -> &[u8]
     requires { ⌜ unitAt k + 32 ≤ length (now tag) ⌝ }
     ensures { λ r. ⌜ now r ≡ unitBytes (now (tag .entry)) k ⌝ }
 {
-    let start = UNITS + 32 * k;
+    let start = unit_at(k);
     let end = start + 32;
     &tag[start..end]
 }
@@ -64,20 +87,20 @@ pub fn segments_at(_a: usize) -> usize
     16384
 }
 
-// The tests of soundness on the length and the two counts.
-fn counts_fit(length: usize, a: usize, p: usize) -> bool
-    requires { ⌜ (a < 65536) × (p < 65536) ⌝ }
-    ensures { λ r. ⌜ r ≡ countsFit length a p ⌝ }
+// The tests of soundness, on a tag that is not too short for them.
+fn tests_hold(tag: &[u8]) -> bool
+    requires { ⌜ 20480 ≤ length (now tag) ⌝ }
+    ensures { λ r. ⌜ r ≡ sound (now (tag .entry)) ⌝ }
 {
-    (length == segments_at(a) + 4096 * (a + p)) & (1 <= a) & (a <= 128) & (p <= 128)
-}
-
-// The tests on the flag, the three zeros and PIN 0.
-fn rest_fits(tag: &[u8]) -> bool
-    requires { ⌜ 4112 ≤ length (now tag) ⌝ }
-    ensures { λ r. ⌜ r ≡ restFits (now (tag .entry)) ⌝ }
-{
-    (tag[12] <= 1) & octets::all_zero(&tag[13..16]) & octets::all_zero(&tag[4096..4112])
+    let a = segments(tag);
+    let p = publics(tag);
+    (tag.len() == segments_at(a) + 4096 * (a + p))
+        & (1 <= a)
+        & (a <= MOST)
+        & (p <= MOST)
+        & (tag[FLAG] <= 1)
+        & octets::all_zero(&tag[FLAG + 1..OWNERS])
+        & octets::all_zero(&tag[PINS..PINS + 16])
 }
 
 pub fn sound(tag: &[u8]) -> bool
@@ -86,7 +109,7 @@ pub fn sound(tag: &[u8]) -> bool
     if tag.len() < 20480 {
         return false;
     }
-    counts_fit(tag.len(), segments(tag), publics(tag)) & rest_fits(tag)
+    tests_hold(tag)
 }
 
 fn within(fits: bool, place: Place) -> Found
@@ -119,15 +142,15 @@ fn first_place(at: usize, n: usize) -> Found
     requires { ⌜ (at + n ≤ 4096) × (1 ≤ n) ⌝ }
     ensures { λ r. ⌜ ((a p : ℕ) → a ≤ most → found r ≡ find (rows a p) at n) ⌝ }
 {
-    if at < 16 {
-        return within(n <= 16 - at, Place::Header);
+    if at < OWNERS {
+        return within(n <= OWNERS - at, Place::Header);
     }
-    if at < 3984 {
-        return within(n <= 3984 - at, Place::Hidden);
+    if at < REGISTERS {
+        return within(n <= REGISTERS - at, Place::Hidden);
     }
     within(
         n <= 16 - at % 16,
-        Place::RegisterOf(register_no((at - 3984) / 16)),
+        Place::RegisterOf(register_no((at - REGISTERS) / 16)),
     )
 }
 
@@ -136,7 +159,7 @@ fn fixed_place(at: usize, n: usize) -> Found
     requires { ⌜ (at < 12288) × (at % 4096 + n ≤ 4096) × (1 ≤ n) ⌝ }
     ensures { λ r. ⌜ ((a p : ℕ) → a ≤ most → found r ≡ find (rows a p) at n) ⌝ }
 {
-    if at < 4096 {
+    if at < PINS {
         return first_place(at, n);
     }
     if at < READERS {

@@ -241,21 +241,49 @@ put-back a n t ys bs p e h =
     let k : a + n - a ≡ length bs = omega arith in
     rw (p, k) (put-middle a bs t (omega arith))
 
--- a store at the start of a part is one in the whole
+-- data that is stored in the part, or XORed into it
+pub store-back : (a : ℕ) (bs t ys : List ℕ) → a + length bs ≤ length t
+    → ys ≡ put 0 bs (midOf a (a + length bs - a) t) → putMid a (a + length bs - a) t ys ≡ put a bs t
+store-back a bs t ys h e =
+    let l = length-lent a (length bs) t h in
+    put-back a (length bs) t ys bs (e ∙ rw (part-lent a (length bs) t) (put-whole bs _ (sym l))) refl h
+
+pub xor-back : (a : ℕ) (bs t ys : List ℕ) → a + length bs ≤ length t
+    → ys ≡ xor (midOf a (a + length bs - a) t) bs
+    → putMid a (a + length bs - a) t ys ≡ put a (xor (part a (length bs) t) bs) t
+xor-back a bs t ys h e =
+    let old = part a (length bs) t in
+    put-back a (length bs) t ys (xor old bs) (e ∙ ap (λ l. xor l bs) (part-lent a (length bs) t))
+    (length-xor old bs ∙ length-lent a (length bs) t h) h
+
+-- a store in a part is one in the whole
 put-own : (n : ℕ) (t : List ℕ) → put 0 (take n t) t ≡ t
 unfolding put
 put-own n [] = refl
 put-own zero (x ∷ t) = refl
 put-own (suc n) (x ∷ t) = ap (λ l. x ∷ l) (put-own n t)
 
-pub put-part : (a n : ℕ) (bs t : List ℕ) → length bs ≤ n → put a (put 0 bs (part a n t)) t ≡ put a bs t
+put-first : (n o : ℕ) (bs t : List ℕ) → o + length bs ≤ n → put 0 (put o bs (take n t)) t ≡ put o bs t
+unfolding put
+put-first n o bs [] h = refl
+put-first zero zero [] (x ∷ t) h = refl
+put-first zero zero (b ∷ bs) (x ∷ t) h = absurd (omega arith)
+put-first zero (suc o) bs (x ∷ t) h = absurd (omega arith)
+put-first (suc n) zero [] (x ∷ t) h = ap (λ l. x ∷ l) (put-own n t)
+put-first (suc n) zero (b ∷ bs) (x ∷ t) h = ap (λ l. b ∷ l) (put-first n zero bs t (omega arith))
+put-first (suc n) (suc o) bs (x ∷ t) h = ap (λ l. x ∷ l) (put-first n o bs t (omega arith))
+
+pub put-inside : (a n o p : ℕ) (bs t : List ℕ) → a + o ≡ p → o + length bs ≤ n
+    → put a (put o bs (part a n t)) t ≡ put p bs t
 unfolding put part
-put-part a n bs [] h = refl
-put-part (suc a) n bs (x ∷ t) h = ap (λ l. x ∷ l) (put-part a n bs t h)
-put-part zero zero [] (x ∷ t) h = refl
-put-part zero zero (b ∷ bs) (x ∷ t) h = absurd (omega arith)
-put-part zero (suc n) [] (x ∷ t) h = ap (λ l. x ∷ l) (put-own n t)
-put-part zero (suc n) (b ∷ bs) (x ∷ t) h = ap (λ l. b ∷ l) (put-part zero n bs t (omega arith))
+put-inside a n o p bs [] e h = refl
+put-inside zero n o p bs (x ∷ t) e h =
+    let q : o ≡ p = omega arith in put-first n o bs (x ∷ t) h ∙ ap (λ i. put i bs (x ∷ t)) q
+put-inside (suc a) n o zero bs (x ∷ t) e h = absurd (omega arith)
+put-inside (suc a) n o (suc p) bs (x ∷ t) e h = ap (λ l. x ∷ l) (put-inside a n o p bs t (omega arith) h)
+
+pub put-part : (a n : ℕ) (bs t : List ℕ) → length bs ≤ n → put a (put 0 bs (part a n t)) t ≡ put a bs t
+put-part a n bs t h = put-inside a n 0 a bs t (omega arith) (omega arith)
 
 -- a number of two bytes
 pub put-number : (a i : ℕ) (t : List ℕ) → set (set t a (i / 256 % 256)) (a + 1) (i % 256) ≡ put a (bytesOf 2 i) t

@@ -17,6 +17,7 @@ pub mod Locked
 pub mod Slots
 pub mod Counting
 pub mod Refused
+pub mod Unsound
 pub mod Repeats
 pub mod Segments
 pub mod Copies

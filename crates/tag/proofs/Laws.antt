@@ -22,7 +22,7 @@ use Rattle.rules.proofs.BytesLaws.{put-none}
 use Rattle.rules.proofs.GrantedRead.{granted-read}
 use Rattle.rules.proofs.Calls.{replied, powered}
 use Rattle.octets.proofs.Laws.{part-lent, block-lent}
-use Rattle.commands.proofs.ReadLaws.{read-stays}
+use Rattle.reads.proofs.Laws.{read-stays}
 use Rattle.xxtea.specs.Block.{E}
 use Rattle.command_log.specs.Next.{readHead, readLength}
 use Rattle.tag.specs.declared.Replied.{Replied}

@@ -28,7 +28,7 @@ use Rattle.rules.proofs.Lawful.{sound-stays}
 use Rattle.rules.proofs.Moves.{power-up-clears}
 use Rattle.rules.proofs.LogLaws.{log-is-its-commands}
 use Rattle.rules.proofs.RunLaws.{of-log, reply-fits}
-use Rattle.commands.proofs.ActLaws.{unsound}
+use Rattle.rules.proofs.Unsound.{unsound}
 use Rattle.xxtea.specs.Block.{E}
 use Rattle.command_log.proofs.Next as the-next
 use Rattle.command_log.specs.declared.Next.{Next}
@@ -41,10 +41,10 @@ use Rattle.tag.proofs.Laws.{put-part-back}
 -- ---- soundness stays as it was tested
 
 unsound-stays : (s : State) (c : Command) → sound (s .tag) ≡ false → after E s c .tag ≡ s .tag
-unsound-stays s (read a n room) e = sym (ap (λ x. x .tag) (unsound s (read a n room) tt e .left))
-unsound-stays s (write a bs) e = sym (ap (λ x. x .tag) (unsound s (write a bs) tt e .left))
-unsound-stays s (advance k) e = sym (ap (λ x. x .tag) (unsound s (advance k) tt e .left))
-unsound-stays s (insert k id) e = sym (ap (λ x. x .tag) (unsound s (insert k id) tt e .left))
+unsound-stays s (read a n room) e = sym (ap (λ x. x .tag) (unsound E s (read a n room) tt e .left))
+unsound-stays s (write a bs) e = sym (ap (λ x. x .tag) (unsound E s (write a bs) tt e .left))
+unsound-stays s (advance k) e = sym (ap (λ x. x .tag) (unsound E s (advance k) tt e .left))
+unsound-stays s (insert k id) e = sym (ap (λ x. x .tag) (unsound E s (insert k id) tt e .left))
 unsound-stays s powerUp e = power-up-clears E s .same-tag
 
 sound-same : (s : State) (c : Command) → sound (s .tag) ≡ sound (after E s c .tag)
@@ -134,16 +134,16 @@ falls log i x k d h e = let t : k ≡ 1 + takes log i x d .body = e ∙ takes lo
 -- ---- the loop
 
 -- i bytes of the log are read and j written, and what is left leads to the result `goal`
-pub record Going (goal : Result) (log : List ℕ) (tested : Bool) (t out : List ℕ) (v : Session) (i j : ℕ) : Type 0 where
+pub record Going (goal : Result) (log : List ℕ) (is-sound : Bool) (t out : List ℕ) (v : Session) (i j : ℕ) : Type 0 where
   pub there : i ≤ length log
   pub fits : j ≤ length out
-  pub same : tested ≡ sound t
+  pub same : is-sound ≡ sound t
   pub leads : resultFrom i j (runLog E (state t v) (drop i log) (length out - j)) out ≡ goal
 
-pub going-first : (s : State) (log out : List ℕ) (tested : Bool) → tested ≡ sound (s .tag)
-    → Going (runOver E s log out) log tested (s .tag) out (s .session) 0 0
+pub going-first : (s : State) (log out : List ℕ) (is-sound : Bool) → is-sound ≡ sound (s .tag)
+    → Going (runOver E s log out) log is-sound (s .tag) out (s .session) 0 0
 unfolding runOver
-going-first s log out tested e =
+going-first s log out is-sound e =
     let k : length out - 0 ≡ length out = omega arith in
     record {
       there = omega arith;
@@ -157,10 +157,10 @@ at-byte : (log : List ℕ) (i : ℕ) → i < length log → drop i log ≡ byte 
 at-byte log i h = rw add-one (drop-cons log i 0 h)
 
 -- the loop stops at a command without room
-pub stops-full : (goal : Result) (log : List ℕ) (tested : Bool) (t out : List ℕ) (v : Session) (i j : ℕ) (x : Next) (q : Run)
-    → Going goal log tested t out v i j → i < length log → ComesNext log i x → length out - j < roomOf x
+pub stops-full : (goal : Result) (log : List ℕ) (is-sound : Bool) (t out : List ℕ) (v : Session) (i j : ℕ) (x : Next) (q : Run)
+    → Going goal log is-sound t out v i j → i < length log → ComesNext log i x → length out - j < roomOf x
     → q ≡ returned i j OutputFull v → result q t out ≡ goal
-stops-full goal log tested t out v i j x q g h n l e =
+stops-full goal log is-sound t out v i j x q g h n l e =
     let s = state t v in
     let a : length out - j < roomAsked (commandAt log i x) = rw (room-asked log i x) l in
     let r = run-full s (byte i log) (drop (i + 1) log) (length out - j) _ (sym (n .command)) a in
@@ -188,11 +188,11 @@ replied-at log t out u ys v i j x r n l p =
     rw (p .written .bytes) (put-part-back j (length out - j) _ out (omega arith))
 
 -- the loop stops at a 15, which is replied
-pub stops-15 : (goal : Result) (log : List ℕ) (tested : Bool) (t out u ys : List ℕ) (v : Session) (i j : ℕ) (x : Next) (r : Replied) (q : Run)
-    → Going goal log tested t out v i j → i < length log → ComesNext log i x → x ≡ next.Unreadable
+pub stops-15 : (goal : Result) (log : List ℕ) (is-sound : Bool) (t out u ys : List ℕ) (v : Session) (i j : ℕ) (x : Next) (r : Replied) (q : Run)
+    → Going goal log is-sound t out v i j → i < length log → ComesNext log i x → x ≡ next.Unreadable
     → roomOf x ≤ length out - j → Replies E (state t v) (commandAt log i x) (midOf j (length out - j) out) u ys r
     → q ≡ returned i (j + r .written) BadCommand (r .session) → result q u (putMid j (length out - j) out ys) ≡ goal
-stops-15 goal log tested t out u ys v i j x r q g h n e l p d =
+stops-15 goal log is-sound t out u ys v i j x r q g h n e l p d =
     let s = state t v in
     let none-comes : commandAt log i x ≡ none = ap (commandAt log i) e in
     let b : runLog E s (byte i log ∷ drop (i + 1) log) (length out - j) ≡ stopped (some 15) (encoded (refused 15)) s =
@@ -205,12 +205,12 @@ stops-15 goal log tested t out u ys v i j x r q g h n e l p d =
     (f ∙ ap (λ y. resultFrom i j y out) (sym (ap (λ l. runLog E s l (length out - j)) (at-byte log i h) ∙ b)) ∙ g .leads))
 
 -- or goes on behind a command
-pub goes-on : (goal : Result) (log : List ℕ) (tested : Bool) (t out u ys : List ℕ) (v : Session) (i j : ℕ) (x : Next) (r : Replied)
-    → Going goal log tested t out v i j → i < length log → ComesNext log i x
+pub goes-on : (goal : Result) (log : List ℕ) (is-sound : Bool) (t out u ys : List ℕ) (v : Session) (i j : ℕ) (x : Next) (r : Replied)
+    → Going goal log is-sound t out v i j → i < length log → ComesNext log i x
     → OneOf (0 ∷ 1 ∷ 2 ∷ 3 ∷ 4 ∷ []) (tagOf the-next.the-type x)
     → roomOf x ≤ length out - j → Replies E (state t v) (commandAt log i x) (midOf j (length out - j) out) u ys r
-    → Going goal log tested u (putMid j (length out - j) out ys) (r .session) (i + lengthOf x) (j + r .written)
-goes-on goal log tested t out u ys v i j x r g h n d l p =
+    → Going goal log is-sound u (putMid j (length out - j) out ys) (r .session) (i + lengthOf x) (j + r .written)
+goes-on goal log is-sound t out u ys v i j x r g h n d l p =
     let s = state t v in
     let y = takes log i x d in
     let c = y .command in
@@ -237,9 +237,9 @@ goes-on goal log tested t out u ys v i j x r g h n d l p =
     }
 
 -- or is through the log
-pub stops-end : (goal : Result) (log : List ℕ) (tested : Bool) (t out : List ℕ) (v : Session) (i j : ℕ) (q : Run)
-    → Going goal log tested t out v i j → length log ≤ i → q ≡ returned i j End v → result q t out ≡ goal
-stops-end goal log tested t out v i j q g h e =
+pub stops-end : (goal : Result) (log : List ℕ) (is-sound : Bool) (t out : List ℕ) (v : Session) (i j : ℕ) (q : Run)
+    → Going goal log is-sound t out v i j → length log ≤ i → q ≡ returned i j End v → result q t out ≡ goal
+stops-end goal log is-sound t out v i j q g h e =
     let s = state t v in
     let k : j + 0 ≡ j = omega arith in
     let f = rw (put-none j out, k) at (from-stopped i j End [] s out) in

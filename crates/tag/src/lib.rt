@@ -44,23 +44,23 @@ pub fn read(
     ensures { λ r. ⌜ CarriedOut E (state (now (tag .entry)) session) (command.read address count (length (now (output .entry)))) (now (tag .entry)) r ⌝ }
     ensures { λ _. ⌜ now (output .exit) ≡ filled (reply E (state (now (tag .entry)) session) (command.read address count (length (now (output .entry))))) (now (output .entry)) ⌝ }
 {
-    let tested = layout::sound(tag);
-    let answer = commands::read(tag, tested, session, address, count, output);
+    let is_sound = layout::sound(tag);
+    let answer = reads::read(tag, is_sound, session, address, count, output);
     Outcome { answer, session }
 }
 
 pub fn write(tag: &mut [u8], session: Session, address: usize, data: &[u8]) -> Outcome
     ensures { λ r. ⌜ CarriedOut E (state (now (tag .entry)) session) (command.write address (now («data» .entry))) (now (tag .exit)) r ⌝ }
 {
-    let tested = layout::sound(tag);
-    commands::write(tag, tested, session, address, data)
+    let is_sound = layout::sound(tag);
+    writes::write(tag, is_sound, session, address, data)
 }
 
 pub fn advance(tag: &mut [u8], session: Session, segment: usize) -> Outcome
     ensures { λ r. ⌜ CarriedOut E (state (now (tag .entry)) session) (command.advance segment) (now (tag .exit)) r ⌝ }
 {
-    let tested = layout::sound(tag);
-    let answer = commands::advance(tag, tested, session, segment);
+    let is_sound = layout::sound(tag);
+    let answer = moves::advance(tag, is_sound, session, segment);
     Outcome { answer, session }
 }
 
@@ -68,8 +68,8 @@ pub fn advance(tag: &mut [u8], session: Session, segment: usize) -> Outcome
 pub fn insert(tag: &mut [u8], session: Session, segment: usize, id: [u8; 16]) -> Outcome
     ensures { λ r. ⌜ CarriedOut E (state (now (tag .entry)) session) (command.insert segment id) (now (tag .exit)) r ⌝ }
 {
-    let tested = layout::sound(tag);
-    let answer = commands::insert(tag, tested, session, segment, id);
+    let is_sound = layout::sound(tag);
+    let answer = moves::insert(tag, is_sound, session, segment, id);
     Outcome { answer, session }
 }
 
@@ -78,17 +78,17 @@ pub fn insert(tag: &mut [u8], session: Session, segment: usize, id: [u8; 16]) ->
 // A read: its bytes go straight into the output, behind the reply's code.
 fn reply_read(
     tag: &[u8],
-    tested: bool,
+    is_sound: bool,
     session: Session,
     address: usize,
     count: usize,
     output: &mut [u8],
 ) -> usize
-    requires { ⌜ (tested ≡ sound (now tag)) × (1 ≤ count) × (count ≤ 32) × (1 + count ≤ length (now output)) ⌝ }
+    requires { ⌜ («is_sound» ≡ sound (now tag)) × (1 ≤ count) × (count ≤ 32) × (1 + count ≤ length (now output)) ⌝ }
     ensures { λ r. ⌜ Written (reply E (state (now (tag .entry)) session) (command.read address count count)) (now (output .entry)) (now (output .exit)) r ⌝ }
 {
     let end = 1 + count;
-    let answer = commands::read(tag, tested, session, address, count, &mut output[1..end]);
+    let answer = reads::read(tag, is_sound, session, address, count, &mut output[1..end]);
     command_log::put_read(output, answer, count)
 }
 
@@ -112,39 +112,39 @@ fn reply_with(output: &mut [u8], answer: Answer, session: Session) -> Replied
 // Carries out what comes next at a byte of the log, and puts its reply at the start of the output. A 15 is replied too.
 fn reply_to(
     tag: &mut [u8],
-    tested: bool,
+    is_sound: bool,
     session: Session,
     log: &[u8],
     at: usize,
     next: Next,
     output: &mut [u8],
 ) -> Replied
-    requires { ⌜ (tested ≡ sound (now tag)) × ComesNext (now log) at next × (roomOf next ≤ length (now output)) ⌝ }
+    requires { ⌜ («is_sound» ≡ sound (now tag)) × ComesNext (now log) at next × (roomOf next ≤ length (now output)) ⌝ }
     ensures { λ r. ⌜ Replies E (state (now (tag .entry)) session) (commandAt (now (log .entry)) at next) (now (output .entry)) (now (tag .exit)) (now (output .exit)) r ⌝ }
 {
     match next {
         Next::PowerUp => reply_with(output, Answer::Done, power_up()),
         Next::Read(address, count) => Replied {
-            written: reply_read(tag, tested, session, address, count, output),
+            written: reply_read(tag, is_sound, session, address, count, output),
             session,
         },
         Next::Write(address, count) => {
             let start = at + 5;
             let end = start + count;
-            let outcome = commands::write(tag, tested, session, address, &log[start..end]);
+            let outcome = writes::write(tag, is_sound, session, address, &log[start..end]);
             let answer = outcome.answer;
             let after = outcome.session;
             reply_with(output, answer, after)
         }
         Next::Advance(segment) => {
-            let answer = commands::advance(tag, tested, session, segment);
+            let answer = moves::advance(tag, is_sound, session, segment);
             reply_with(output, answer, session)
         }
         Next::Insert(segment) => {
             let start = at + 3;
             let end = start + 16;
             let host = octets::sixteen(&log[start..end]);
-            let answer = commands::insert(tag, tested, session, segment, host);
+            let answer = moves::insert(tag, is_sound, session, segment, host);
             reply_with(output, answer, session)
         }
         Next::Unreadable => reply_with(output, Answer::Refused(Refusal::Unreadable), session),
@@ -166,7 +166,7 @@ fn stopped(read: usize, written: usize, stop: Stop, session: Session) -> rules::
 pub fn run(tag: &mut [u8], session: Session, log: &[u8], output: &mut [u8]) -> rules::Run
     ensures { λ r. ⌜ result r (now (tag .exit)) (now (output .exit)) ≡ runOver E (state (now (tag .entry)) session) (now (log .entry)) (now (output .entry)) ⌝ }
 {
-    let tested = layout::sound(tag);
+    let is_sound = layout::sound(tag);
     let mut session = session;
     let mut read = 0;
     let mut written = 0;
@@ -177,7 +177,7 @@ pub fn run(tag: &mut [u8], session: Session, log: &[u8], output: &mut [u8]) -> r
         }
         let replied = reply_to(
             tag,
-            tested,
+            is_sound,
             session,
             log,
             read,

@@ -1,2 +1,3 @@
 -- The root of the definitions of `units`.
 pub mod Decoded
+pub mod Rights

@@ -3,14 +3,19 @@
 // calls hands over just these.
 ghost use mathlib.Core.Path.{_≡_};
 ghost use mathlib.Core.Bool.{true, not};
+ghost use Prim.Native.Nat.{_+_, _≤_};
 ghost use lib.ListN.{length};
-ghost use Rattle.rules.specs.Bytes.{put};
-ghost use Rattle.rules.specs.Units.{modelFormed, unitOf, wellFormed};
-ghost use Rattle.rules.specs.Refusals.{editAllowed, isFilling, isInserted, keepsModel, pastStageZero};
+ghost use Rattle.rules.specs.Bytes.{put, same};
+ghost use Rattle.rules.specs.Units.{modelFormed, nameOf, unitOf, wellFormed};
+ghost use Rattle.rules.specs.Answers.{refusalOf};
+ghost use Rattle.rules.specs.Refusals.{editAllowed, isFilling, isInserted, keepsModel, lowest, pastStageZero};
 ghost use Rattle.rules.specs.Effects.{advanced, inserted, readOnly};
 ghost use Rattle.units.specs.Decoded.{decoded, modelRead};
+ghost use Rattle.units.specs.Rights.{rights};
+use rules::Answer;
 use rules::KeyStage;
 use rules::Model;
+use rules::Refusal;
 use rules::Stage;
 use rules::Unit;
 
@@ -209,4 +214,38 @@ pub fn insert(unit: &mut [u8])
 {
     unit[0] = read_only(unit[0]);
     unit[1] = 0x14;
+}
+
+// Data goes into a unit, at an offset.
+pub fn edit(unit: &mut [u8], offset: usize, data: &[u8])
+    requires { ⌜ (length (now unit) ≡ 32) × (offset + length (now «data») ≤ 32) ⌝ }
+    ensures { λ _. ⌜ now (unit .exit) ≡ put offset (now («data» .entry)) (now (unit .entry)) ⌝ }
+{
+    octets::store_at(unit, offset, data)
+}
+
+// ---- the rights that a unit gives
+
+// Whether a name is the unit's.
+pub fn named(unit: &[u8], name: &[u8]) -> bool
+    requires { ⌜ length (now unit) ≡ 32 ⌝ }
+    ensures { λ r. ⌜ r ≡ same (now (name .entry)) (nameOf (now (unit .entry))) ⌝ }
+{
+    octets::equal(name, &unit[16..32])
+}
+
+// 6, 7 and 8, by their tests, in this order.
+pub fn judge_rights(forbidden: bool, pin: bool, name: bool) -> Answer
+    ensures { λ r. ⌜ refusalOf r ≡ lowest (rights forbidden pin name) ⌝ }
+{
+    if forbidden {
+        return Answer::Refused(Refusal::Forbidden);
+    }
+    if pin {
+        return Answer::Refused(Refusal::OtherPin);
+    }
+    if name {
+        return Answer::Refused(Refusal::OtherName);
+    }
+    Answer::Done
 }

@@ -5,11 +5,8 @@ use Rattle.octets.proofs.Laws.{part-lent}
 use Rattle.layout.proofs.unit_of.Statement.{statement}
 use Rattle.layout.proofs.unit_of.Tie as tie
 
-mul-start : tie.Need-mul-start
-mul-start c = search needs
-
-add-start : tie.Need-add-start
-add-start c = search needs
+unit-at-requires : tie.Need-unit-at-requires
+unit-at-requires c κs = search needs
 
 add-end : tie.Need-add-end
 add-end c = search needs
@@ -25,8 +22,8 @@ part-result-end c = search needs
 
 returns : tie.Need-returns
 unfolding unitBytes
-returns c = part-lent _ 32 _
+returns c = rw (c .before .unit-at .ensures) (part-lent _ 32 _)
 
 pub unit-of-spec : {M : Type 1} → statement M
 unit-of-spec =
-    tie.close (tie.spec mul-start add-start add-end sub-result part-result-start part-result-end returns)
+    tie.close (tie.spec unit-at-requires add-end sub-result part-result-start part-result-end returns)

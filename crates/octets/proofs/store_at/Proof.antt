@@ -1,7 +1,5 @@
 -- `octets::store_at` meets its contract: the part that was lent comes back as the data. Assumes nothing.
-use mathlib.Core.Path.{refl, sym, _∙_}
-use lib.ListN.{length}
-use Rattle.octets.proofs.Laws.{part-lent, length-lent, put-whole, put-back}
+use Rattle.octets.proofs.Laws.{store-back}
 use borrow.Author.Needs.{needs}
 use Rattle.octets.proofs.store_at.Statement.{statement}
 use Rattle.octets.proofs.store_at.Tie as tie
@@ -28,11 +26,7 @@ returns : tie.Need-returns
 returns c =
     let start = c .before .before .before .before .before .before in
     let a = start .args in
-    let bs = a .«data» .now in
-    let l = length-lent (a .at) (length bs) (a .bytes .now) (start .pre) in
-    put-back (a .at) (length bs) (a .bytes .now) _ bs
-    (c .before .before .store .ensures ∙ rw (part-lent (a .at) (length bs) (a .bytes .now)) (put-whole bs _ (sym l)))
-    refl (start .pre)
+    store-back (a .at) (a .«data» .now) (a .bytes .now) _ (start .pre) (c .before .before .store .ensures)
 
 pub store-at-spec : {M : Type 1} → statement M
 store-at-spec =

@@ -1,9 +1,5 @@
 -- `octets::xor_at` meets its contract: the part that was lent comes back as its XOR. Assumes nothing.
-use mathlib.Core.Path.{ap, _∙_}
-use lib.ListN.{length}
-use Rattle.rules.specs.Bytes.{part, xor}
-use Rattle.rules.proofs.BytesLaws.{length-xor}
-use Rattle.octets.proofs.Laws.{part-lent, length-lent, put-back}
+use Rattle.octets.proofs.Laws.{xor-back}
 use borrow.Author.Needs.{needs}
 use Rattle.octets.proofs.xor_at.Statement.{statement}
 use Rattle.octets.proofs.xor_at.Tie as tie
@@ -30,11 +26,7 @@ returns : tie.Need-returns
 returns c =
     let start = c .before .before .before .before .before .before in
     let a = start .args in
-    let bs = a .«data» .now in
-    let old = part (a .at) (length bs) (a .bytes .now) in
-    put-back (a .at) (length bs) (a .bytes .now) _ (xor old bs)
-    (c .before .before .xor-into .ensures ∙ ap (λ l. xor l bs) (part-lent (a .at) (length bs) (a .bytes .now)))
-    (length-xor old bs ∙ length-lent (a .at) (length bs) (a .bytes .now) (start .pre)) (start .pre)
+    xor-back (a .at) (a .«data» .now) (a .bytes .now) _ (start .pre) (c .before .before .xor-into .ensures)
 
 pub xor-at-spec : {M : Type 1} → statement M
 xor-at-spec =

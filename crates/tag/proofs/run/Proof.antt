@@ -15,13 +15,13 @@ use Rattle.tag.proofs.run.Statement.{statement}
 use Rattle.tag.proofs.run.Tie as tie
 
 abbrev Inv-loop : tie.InvT-loop
-Inv-loop tag₀ log output₀ tested session₀ read₀ written₀ tag output session read written =
-    Going (runOver E (state tag₀ session₀) log output₀) log tested tag output session read written
+Inv-loop tag₀ log output₀ is-sound session₀ read₀ written₀ tag output session read written =
+    Going (runOver E (state tag₀ session₀) log output₀) log is-sound tag output session read written
     × (length tag ≡ length tag₀)
     × (length output ≡ length output₀)
 
 abbrev μ-loop : tie.MeasureT-loop
-μ-loop tag₀ log output₀ tested session₀ read₀ written₀ tag output session read written = length log - read
+μ-loop tag₀ log output₀ is-sound session₀ read₀ written₀ tag output session read written = length log - read
 
 sound-requires : tie.Need-sound-requires Inv-loop μ-loop
 sound-requires c κs = search needs

@@ -1,0 +1,2 @@
+-- The root of the definitions of `moves`.
+pub mod Moves

@@ -1,0 +1,2 @@
+-- The laws of `reads` that belong to no one function.
+pub mod Laws

@@ -1,0 +1,1 @@
+-- `reads` has no definitions of its own.
