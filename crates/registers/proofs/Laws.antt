@@ -1,6 +1,6 @@
 -- Laws of the registers: the blocks that are enciphered, the checks by the tests of the code, and what a granted write
 -- leaves. Assumes nothing.
-use Prim.Native.Nat.{ℕ, _+_, _-_, _*_, _≤_, _<_}
+use Prim.Native.Nat.{ℕ, _+_, _*_, _≤_, _<_}
 use mathlib.Core.Path.{_≡_, refl, sym, ap, _∙_}
 use mathlib.Core.Logic.{_⊎_}
 use mathlib.Core.Bool.{Bool, true, false, not, _||_}
@@ -20,14 +20,14 @@ use Rattle.rules.specs.declared.Answer.{Answer}
 use Rattle.rules.specs.declared.Answer.the-variants.{Done}
 use Rattle.rules.specs.Bytes.{part, put, number, same, xor}
 use Rattle.rules.specs.Answers.{refusalOf}
-use Rattle.rules.specs.Map.{flag, pinAt}
+use Rattle.rules.specs.Map.{counterBytes, flagAt, pinAt}
 use Rattle.rules.specs.State.{state, pinIndex, ownerIndex, guard, pin, owner, response, withRead, withWrite, withEdit, withName, withId, withPa}
-use Rattle.rules.specs.Refusals.{Checks, _when_else_, granted, lowest, registerChecks, responseChecks, nameChecks, commitChecks, plainChecks}
+use Rattle.rules.specs.Refusals.{Checks, _when_else_, granted, lowest, registerChecks, blockChecks, responseChecks, nameChecks, commitChecks}
 use Rattle.rules.specs.Effects.{apply, registerStores, registerSession}
-use Rattle.rules.proofs.Tests.{passes, or-false, gives, leaves, none-applies, joined-three}
+use Rattle.rules.proofs.Tests.{passes, or-false, gives, leaves, none-applies, joined-three, followed, lowest-under}
 use Rattle.octets.proofs.Laws.{part-lent, length-lent, put-whole, block-whole, set-put}
 use Rattle.xxtea.specs.Block.{E}
-use Rattle.registers.specs.Registers.{pinChecks, guardChecks, Taken}
+use Rattle.registers.specs.Registers.{Taken, registerWritten, committed}
 
 -- ---- blocks
 
@@ -37,8 +37,8 @@ unfolding put
 counter-behind bs e = ap (λ l. replicate 8 0 ++ l) (put-whole bs (replicate 8 0) e)
 
 pub counter-lent : (t : List ℕ) → 12 ≤ length t
-    → put 8 (midOf 4 8 t) (replicate 16 0) ≡ replicate 8 0 ++ part 4 8 t
-counter-lent t h = rw (part-lent 4 8 t) (counter-behind (part 4 8 t) (length-lent 4 8 t h))
+    → put 8 (midOf 4 8 t) (replicate 16 0) ≡ replicate 8 0 ++ counterBytes t
+counter-lent t h = rw (part-lent 4 8 t) (counter-behind (counterBytes t) (length-lent 4 8 t h))
 
 -- ---- tests
 
@@ -48,12 +48,11 @@ above a b h = rw (lt-leb a b h)
 pub within : (a b : ℕ) → a ≤ b → not (leb a b) ≡ false
 within a b h = rw (le-leb a b h)
 
--- an index that is not refused
-pub index-within : (n a b : ℕ) (cs : Checks) (r : Answer) → refusalOf r ≡ lowest (n when not (leb a b) else cs)
-    → r ≡ Done → a ≤ b
-index-within n a b cs r e d = leb-true a b (not-false _ (passes n _ cs (sym e ∙ ap refusalOf d) .0))
+-- the PIN index, where the flag rule does not refuse
+pub index-within : (t : List ℕ) (i : ℕ) (r : Answer) → refusalOf r ≡ lowest (nameChecks t i) → r ≡ Done → i ≤ 255
+unfolding nameChecks
+index-within t i r e d = leb-true i 255 (not-false _ (passes 9 _ _ (sym e ∙ ap refusalOf d) .0))
 
--- the indexes of COMMIT, by one test of the three
 past : (a b : ℕ) → ltb b a ≡ not (leb a b)
 past a b = by (leb a b) refl
   where
@@ -61,106 +60,94 @@ past a b = by (leb a b) refl
     by true e = le-ltb b a (leb-true a b e)
     by false e = lt-ltb b a (leb-false a b e)
 
-module _ (t pa bs : List ℕ) (p o : ℕ)
-    (pin-read : p ≡ number (part 0 2 pa)) (owner-read : o ≡ number (part 2 2 pa)) where
-  pub indexes-refuse : ((ltb 255 p || eqb p 0) || ltb 3 o) ≡ true → lowest (guardChecks t pa bs) ≡ some 9
+or-rest : (a b c : Bool) → (b || c) ≡ true → ((a || b) || c) ≡ true
+or-rest true b c e = refl
+or-rest false b c e = e
+
+-- ---- the checks of READ, WRITE and EDIT, and of COMMIT: the flag rule, and then a comparison
+
+pub response-parts : (t : List ℕ) (i : ℕ) (bs : List ℕ)
+    → lowest (responseChecks E t i bs)
+    ≡ lowest (followed (nameChecks t i) (11 when not (same bs (response E (pin t i) t)) else granted))
+unfolding responseChecks nameChecks
+response-parts t i bs = refl
+
+-- COMMIT's PIN index 0 and owner index, by one test of the two
+module _ (t : List ℕ) (i o : ℕ) (g bs : List ℕ) where
+  pub indexes-refuse : (eqb i 0 || ltb 3 o) ≡ true → lowest (commitChecks E t i o g bs) ≡ some 9
+  unfolding commitChecks
   indexes-refuse e =
-      rw (← pin-read, ← owner-read)
-      (joined-three 9 (not (leb p 255)) (eqb p 0) (not (leb o 3)) _ ∙ gives 9 _ _ (rw (← past p 255, ← past o 3) e))
+      joined-three 9 (not (leb i 255)) (eqb i 0) (not (leb o 3)) _
+      ∙ gives 9 _ _ (or-rest (not (leb i 255)) (eqb i 0) _ (rw (← past o 3) e))
 
-  pub indexes-held : ((ltb 255 p || eqb p 0) || ltb 3 o) ≡ false
-      → lowest (guardChecks t pa bs)
-      ≡ lowest (
-      10 when eqb (flag t) 1 else
-      11 when not (same (part 4 12 pa) (part 4 12 (E (owner t o) bs))) else
-      granted)
-  indexes-held e =
-      rw (← pin-read, ← owner-read)
-      (joined-three 9 (not (leb p 255)) (eqb p 0) (not (leb o 3)) _ ∙ leaves 9 _ _ (rw (← past p 255, ← past o 3) e))
+  pub commit-parts : (eqb i 0 || ltb 3 o) ≡ false
+      → lowest (commitChecks E t i o g bs)
+      ≡ lowest (followed (nameChecks t i) (11 when not (same g (part 4 12 (E (owner t o) bs))) else granted))
+  unfolding commitChecks nameChecks
+  commit-parts e =
+      let two = or-false (eqb i 0) (ltb 3 o) e in
+      lowest-under 9 (not (leb i 255)) _ _ (λ _. leaves 9 _ _ (two .0) ∙ leaves 9 _ _ (sym (past o 3) ∙ two .1))
 
-pub owner-held : (p o : ℕ) → ((ltb 255 p || eqb p 0) || ltb 3 o) ≡ false → o ≤ 3
-owner-held p o e = ltb-false 3 o (or-false (ltb 255 p || eqb p 0) (ltb 3 o) e .1)
+pub owner-held : (i o : ℕ) → (eqb i 0 || ltb 3 o) ≡ false → o ≤ 3
+owner-held i o e = ltb-false 3 o (or-false (eqb i 0) (ltb 3 o) e .1)
 
 -- ---- the checks of a register, by what its bytes and the match on it say
 
--- other than 16 bytes
-module _ (t : List ℕ) (v : Session) (bs : List ℕ) (h : length bs ≡ 16 → ⊥) where
-  wrong-size : (cs : Checks) → lowest (9 when not (eqb (length bs) 16) else cs) ≡ some 9
-  wrong-size cs = gives 9 _ _ (ap not (ne-eqb _ _ h))
+module _ (t : List ℕ) (v : Session) (bs : List ℕ) where
+  pub other-size : (r : Register) → (length bs ≡ 16 → ⊥) → lowest (registerChecks E (state t v) r bs) ≡ some 9
+  unfolding registerChecks
+  other-size r h = gives 9 _ _ (ap not (ne-eqb _ _ h))
 
-  pub other-size : (r : Register) → lowest (registerChecks E (state t v) r bs) ≡ some 9
-  unfolding registerChecks responseChecks nameChecks commitChecks plainChecks
-  other-size Read = wrong-size _
-  other-size Write = wrong-size _
-  other-size Edit = wrong-size _
-  other-size Name = wrong-size _
-  other-size Id = wrong-size _
-  other-size Commit = wrong-size _
-  other-size Pa = wrong-size _
+  pub right-size : (r : Register) → length bs ≡ 16
+      → lowest (registerChecks E (state t v) r bs) ≡ lowest (blockChecks E (state t v) r bs)
+  unfolding registerChecks
+  right-size r h = leaves 9 _ _ (ap not (eq-eqb _ _ h))
 
--- 16 bytes
-module _ (t : List ℕ) (v : Session) (bs : List ℕ) (h : length bs ≡ 16) where
-  right-size : (cs : Checks) → lowest (9 when not (eqb (length bs) 16) else cs) ≡ lowest cs
-  right-size cs = leaves 9 _ _ (ap not (eq-eqb _ _ h))
+  pub block-response : (r : Register) → OneOf (0 ∷ 1 ∷ 2 ∷ []) (tagOf the-register.the-type r)
+      → blockChecks E (state t v) r bs ≡ responseChecks E t (pinIndex v) bs
+  unfolding blockChecks
+  block-response Read o = refl
+  block-response Write o = refl
+  block-response Edit o = refl
+  block-response Name o = absurd (miss (0 ∷ 1 ∷ 2 ∷ []) 3 tt o)
+  block-response Id o = absurd (miss (0 ∷ 1 ∷ 2 ∷ []) 4 tt o)
+  block-response Commit o = absurd (miss (0 ∷ 1 ∷ 2 ∷ []) 5 tt o)
+  block-response Pa o = absurd (miss (0 ∷ 1 ∷ 2 ∷ []) 6 tt o)
 
-  pub checks-response : (r : Register) → OneOf (0 ∷ 1 ∷ 2 ∷ []) (tagOf the-register.the-type r)
-      → lowest (registerChecks E (state t v) r bs) ≡ lowest (pinChecks t (pinIndex v) bs)
-  unfolding registerChecks responseChecks
-  checks-response Read o = right-size _
-  checks-response Write o = right-size _
-  checks-response Edit o = right-size _
-  checks-response Name o = absurd (miss (0 ∷ 1 ∷ 2 ∷ []) 3 tt o)
-  checks-response Id o = absurd (miss (0 ∷ 1 ∷ 2 ∷ []) 4 tt o)
-  checks-response Commit o = absurd (miss (0 ∷ 1 ∷ 2 ∷ []) 5 tt o)
-  checks-response Pa o = absurd (miss (0 ∷ 1 ∷ 2 ∷ []) 6 tt o)
+  pub block-plain : (r : Register) → OneOf (4 ∷ 6 ∷ []) (tagOf the-register.the-type r)
+      → blockChecks E (state t v) r bs ≡ granted
+  unfolding blockChecks
+  block-plain Read o = absurd (miss (4 ∷ 6 ∷ []) 0 tt o)
+  block-plain Write o = absurd (miss (4 ∷ 6 ∷ []) 1 tt o)
+  block-plain Edit o = absurd (miss (4 ∷ 6 ∷ []) 2 tt o)
+  block-plain Name o = absurd (miss (4 ∷ 6 ∷ []) 3 tt o)
+  block-plain Id o = refl
+  block-plain Commit o = absurd (miss (4 ∷ 6 ∷ []) 5 tt o)
+  block-plain Pa o = refl
 
-  pub checks-name : lowest (registerChecks E (state t v) Name bs)
-      ≡ lowest (9 when not (leb (pinIndex v) 255) else 10 when eqb (flag t) 1 else granted)
-  unfolding registerChecks nameChecks
-  checks-name = right-size _
-
-  pub checks-commit : lowest (registerChecks E (state t v) Commit bs) ≡ lowest (guardChecks t (v .pa) bs)
-  unfolding registerChecks commitChecks pinIndex ownerIndex guard
-  checks-commit = right-size _
-
-  pub checks-plain : (r : Register) → OneOf (4 ∷ 6 ∷ []) (tagOf the-register.the-type r)
-      → lowest (registerChecks E (state t v) r bs) ≡ none
-  unfolding registerChecks plainChecks
-  checks-plain Read o = absurd (miss (4 ∷ 6 ∷ []) 0 tt o)
-  checks-plain Write o = absurd (miss (4 ∷ 6 ∷ []) 1 tt o)
-  checks-plain Edit o = absurd (miss (4 ∷ 6 ∷ []) 2 tt o)
-  checks-plain Name o = absurd (miss (4 ∷ 6 ∷ []) 3 tt o)
-  checks-plain Id o = right-size _ ∙ none-applies
-  checks-plain Commit o = absurd (miss (4 ∷ 6 ∷ []) 5 tt o)
-  checks-plain Pa o = right-size _ ∙ none-applies
-
--- ---- what a granted write of a register leaves, by the register, the indexes i and j that PA names and the results of
--- the calls
-
-abbrev pub Takes : List ℕ → Session → Register → List ℕ → List ℕ → Session → Type 0
-Takes t v r bs after next =
-    state after next ≡ state (apply (registerStores E (state t v) r bs) t) (registerSession E (state t v) r bs)
+-- ---- the state that a granted write of a register leaves, by the register, the indexes i and j that PA names and the
+-- results of the calls
 
 module _ (t : List ℕ) (v : Session) (r : Register) (bs : List ℕ) (i : ℕ) (index : i ≡ number (part 0 2 (v .pa))) where
-  pub takes-read : r ≡ Read → Takes t v r bs (set t 12 1) (withRead i v)
+  pub takes-read : r ≡ Read → state (set t flagAt 1) (withRead i v) ≡ registerWritten (state t v) r bs
   unfolding apply registerStores registerSession pinIndex
-  takes-read e = rw (e, index, set-put 12 1 t)
+  takes-read e = rw (e, index, set-put flagAt 1 t)
 
-  pub takes-write : r ≡ Write → Takes t v r bs (set t 12 1) (withWrite i v)
+  pub takes-write : r ≡ Write → state (set t flagAt 1) (withWrite i v) ≡ registerWritten (state t v) r bs
   unfolding apply registerStores registerSession pinIndex
-  takes-write e = rw (e, index, set-put 12 1 t)
+  takes-write e = rw (e, index, set-put flagAt 1 t)
 
-  pub takes-edit : r ≡ Edit → Takes t v r bs (set t 12 1) (withEdit i v)
+  pub takes-edit : r ≡ Edit → state (set t flagAt 1) (withEdit i v) ≡ registerWritten (state t v) r bs
   unfolding apply registerStores registerSession pinIndex
-  takes-edit e = rw (e, index, set-put 12 1 t)
+  takes-edit e = rw (e, index, set-put flagAt 1 t)
 
-  pub takes-name : (name : List ℕ) → r ≡ Name → name ≡ xor bs (response E (part (4096 + 16 * i) 16 t) t)
-      → Takes t v r bs (set t 12 1) (withName name v)
+  pub takes-name : (name : List ℕ) → r ≡ Name → name ≡ xor bs (response E (part (pinAt i) 16 t) t)
+      → state (set t flagAt 1) (withName name v) ≡ registerWritten (state t v) r bs
   unfolding apply registerStores registerSession pinIndex pin
-  takes-name name e f = rw (e, f, index, set-put 12 1 t)
+  takes-name name e f = rw (e, f, index, set-put flagAt 1 t)
 
-  pub takes-commit : (j : ℕ) (after : List ℕ) → r ≡ Commit → j ≡ number (part 2 2 (v .pa))
-      → after ≡ put (pinAt i) (xor bs (response E (owner t j) t)) (put 12 (1 ∷ []) t) → Takes t v r bs after v
+  pub takes-commit : (j : ℕ) (after : List ℕ) → r ≡ Commit → j ≡ number (part 2 2 (v .pa)) → after ≡ committed t i j bs
+      → state after v ≡ registerWritten (state t v) r bs
   unfolding apply registerStores registerSession pinIndex ownerIndex
   takes-commit j after e f g = rw (e, g, index, f)
 
@@ -171,10 +158,10 @@ module _ (t : List ℕ) (v : Session) (r : Register) (bs : List ℕ) (i : ℕ) (
 
 module _ (t : List ℕ) (v : Session) (r : Register) (bs new : List ℕ) (whole : length bs ≡ 16)
     (copied : new ≡ put 0 bs (replicate 16 0)) where
-  pub takes-id : r ≡ Id → Takes t v r bs t (withId new v)
+  pub takes-id : r ≡ Id → state t (withId new v) ≡ registerWritten (state t v) r bs
   unfolding apply registerStores registerSession
   takes-id e = rw (e, copied, block-whole bs whole)
 
-  pub takes-pa : r ≡ Pa → Takes t v r bs t (withPa new v)
+  pub takes-pa : r ≡ Pa → state t (withPa new v) ≡ registerWritten (state t v) r bs
   unfolding apply registerStores registerSession
   takes-pa e = rw (e, copied, block-whole bs whole)

@@ -1,22 +1,18 @@
 // The registers of a tag: what judges a write to one, and what a granted one does. Document 01, "What a command does",
 // READ, WRITE, EDIT, NAME, ID, COMMIT and PA. The definitions that the contracts cite are in `rules`, Refusals.antt and
-// Effects.antt. Both public functions ask for what their caller, `tag`, has seen already: a tag that reaches beyond the
-// PIN segment and, to carry a write out, that it was judged.
+// Effects.antt. Both public functions ask for what their callers, the commands, have seen already: a tag that reaches
+// beyond the PIN segment and, to carry a write out, that it was judged.
 ghost use mathlib.Core.Path.{_≡_};
-ghost use mathlib.Core.Bool.{not};
-ghost use mathlib.Core.List.{[], _∷_};
 ghost use Prim.Native.Nat.{_+_, _≤_};
 ghost use lib.ListN.{length};
-ghost use lib.Dec.{eqb, leb};
-ghost use Rattle.rules.specs.Bytes.{part, put, same, xor};
-ghost use Rattle.rules.specs.Map.{flag, pinAt};
+ghost use Rattle.rules.specs.Bytes.{part, same, xor};
+ghost use Rattle.rules.specs.Map.{readersAt};
 ghost use Rattle.rules.specs.State.{state, response};
 ghost use Rattle.rules.specs.State as states;
 ghost use Rattle.rules.specs.Answers.{refusalOf};
-ghost use Rattle.rules.specs.Refusals.{lowest, granted, _when_else_, registerChecks};
-ghost use Rattle.rules.specs.Effects.{apply, registerStores, registerSession};
+ghost use Rattle.rules.specs.Refusals.{lowest, responseChecks, nameChecks, commitChecks, registerChecks};
 ghost use Rattle.xxtea.specs.Block.{E};
-ghost use Rattle.registers.specs.Registers.{pinChecks, guardChecks, Taken};
+ghost use Rattle.registers.specs.Registers.{Taken, committed, registerWritten};
 use rules::Answer;
 use rules::Refusal;
 use rules::Register;
@@ -45,7 +41,7 @@ fn response(tag: &[u8], key: usize) -> [u8; 16]
 // What READ, WRITE, EDIT and NAME ask of the PIN index, and of the flag.
 fn judge_flag(tag: &[u8], pin: usize) -> Answer
     requires { ⌜ 16 ≤ length (now tag) ⌝ }
-    ensures { λ r. ⌜ refusalOf r ≡ lowest (9 when not (leb pin 255) else 10 when eqb (flag (now (tag .entry))) 1 else granted) ⌝ }
+    ensures { λ r. ⌜ refusalOf r ≡ lowest (nameChecks (now (tag .entry)) pin) ⌝ }
 {
     if 255 < pin {
         return Answer::Refused(Refusal::BadRegister);
@@ -58,8 +54,8 @@ fn judge_flag(tag: &[u8], pin: usize) -> Answer
 
 // READ, WRITE and EDIT: the 16 bytes must be the counter enciphered by the PIN that PA names.
 fn judge_response(tag: &[u8], pin: usize, data: &[u8]) -> Answer
-    requires { ⌜ 8192 ≤ length (now tag) ⌝ }
-    ensures { λ r. ⌜ refusalOf r ≡ lowest (pinChecks (now (tag .entry)) pin (now («data» .entry))) ⌝ }
+    requires { ⌜ readersAt ≤ length (now tag) ⌝ }
+    ensures { λ r. ⌜ refusalOf r ≡ lowest (responseChecks E (now (tag .entry)) pin (now («data» .entry))) ⌝ }
 {
     let held = judge_flag(tag, pin);
     if let Answer::Refused(r) = held {
@@ -75,7 +71,7 @@ fn judge_response(tag: &[u8], pin: usize, data: &[u8]) -> Answer
 
 // Whether the guard is that of the 16 bytes by an owner PIN.
 fn guard_fits(tag: &[u8], owner: usize, guard: &[u8], data: &[u8]) -> bool
-    requires { ⌜ (8192 ≤ length (now tag)) × (owner ≤ 3) × (length (now «data») ≡ 16) ⌝ }
+    requires { ⌜ (readersAt ≤ length (now tag)) × (owner ≤ 3) × (length (now «data») ≡ 16) ⌝ }
     ensures { λ r. ⌜ r ≡ same (now (guard .entry)) (part 4 12 (E (states.owner (now (tag .entry)) owner) (now («data» .entry)))) ⌝ }
 {
     let start = OWNERS + 16 * owner;
@@ -86,19 +82,18 @@ fn guard_fits(tag: &[u8], owner: usize, guard: &[u8], data: &[u8]) -> bool
 }
 
 // COMMIT: the indexes, the flag, and then the guard.
-fn judge_commit(tag: &[u8], pa: [u8; 16], data: &[u8]) -> Answer
-    requires { ⌜ (8192 ≤ length (now tag)) × (length (now «data») ≡ 16) ⌝ }
-    ensures { λ r. ⌜ refusalOf r ≡ lowest (guardChecks (now (tag .entry)) pa (now («data» .entry))) ⌝ }
+fn judge_commit(tag: &[u8], pin: usize, owner: usize, guard: &[u8], data: &[u8]) -> Answer
+    requires { ⌜ (readersAt ≤ length (now tag)) × (length (now «data») ≡ 16) ⌝ }
+    ensures { λ r. ⌜ refusalOf r ≡ lowest (commitChecks E (now (tag .entry)) pin owner (now (guard .entry)) (now («data» .entry))) ⌝ }
 {
-    let pin = octets::number16(&pa, 0);
-    let owner = octets::number16(&pa, 2);
-    if (255 < pin) | (pin == 0) | (3 < owner) {
+    if (pin == 0) | (3 < owner) {
         return Answer::Refused(Refusal::BadRegister);
     }
-    if tag[FLAG] == 1 {
-        return Answer::Refused(Refusal::FlagUsed);
+    let held = judge_flag(tag, pin);
+    if let Answer::Refused(r) = held {
+        return Answer::Refused(r);
     }
-    if guard_fits(tag, owner, &pa[4..16], data) {
+    if guard_fits(tag, owner, guard, data) {
         Answer::Done
     } else {
         Answer::Refused(Refusal::WrongResponse)
@@ -107,7 +102,7 @@ fn judge_commit(tag: &[u8], pa: [u8; 16], data: &[u8]) -> Answer
 
 // What a write to a register gets.
 pub fn judge(tag: &[u8], session: Session, register: Register, data: &[u8]) -> Answer
-    requires { ⌜ 8192 ≤ length (now tag) ⌝ }
+    requires { ⌜ readersAt ≤ length (now tag) ⌝ }
     ensures { λ r. ⌜ refusalOf r ≡ lowest (registerChecks E (state (now (tag .entry)) session) register (now («data» .entry))) ⌝ }
 {
     if data.len() != 16 {
@@ -118,7 +113,7 @@ pub fn judge(tag: &[u8], session: Session, register: Register, data: &[u8]) -> A
     match register {
         Register::Read | Register::Write | Register::Edit => judge_response(tag, pin, data),
         Register::Name => judge_flag(tag, pin),
-        Register::Commit => judge_commit(tag, pa, data),
+        Register::Commit => judge_commit(tag, pin, octets::number16(&pa, 2), &pa[4..16], data),
         Register::Id | Register::Pa => Answer::Done,
     }
 }
@@ -136,8 +131,8 @@ fn masked(tag: &[u8], key: usize, data: &[u8]) -> [u8; 16]
 
 // COMMIT: a new PIN.
 fn commit(tag: &mut [u8], pin: usize, owner: usize, data: &[u8])
-    requires { ⌜ (8192 ≤ length (now tag)) × (pin ≤ 255) × (owner ≤ 3) × (length (now «data») ≡ 16) ⌝ }
-    ensures { λ _. ⌜ now (tag .exit) ≡ put (pinAt pin) (xor (now («data» .entry)) (response E (states.owner (now (tag .entry)) owner) (now (tag .entry)))) (put 12 (1 ∷ []) (now (tag .entry))) ⌝ }
+    requires { ⌜ (readersAt ≤ length (now tag)) × (pin ≤ 255) × (owner ≤ 3) × (length (now «data») ≡ 16) ⌝ }
+    ensures { λ _. ⌜ now (tag .exit) ≡ committed (now (tag .entry)) pin owner (now («data» .entry)) ⌝ }
 {
     let new = masked(tag, OWNERS + 16 * owner, data);
     tag[FLAG] = 1;
@@ -147,7 +142,7 @@ fn commit(tag: &mut [u8], pin: usize, owner: usize, data: &[u8])
 // A granted write of a register.
 pub fn take(tag: &mut [u8], session: Session, register: Register, data: &[u8]) -> Session
     requires { ⌜ Taken (now tag) session register (now «data») ⌝ }
-    ensures { λ r. ⌜ state (now (tag .exit)) r ≡ state (apply (registerStores E (state (now (tag .entry)) session) register (now («data» .entry))) (now (tag .entry))) (registerSession E (state (now (tag .entry)) session) register (now («data» .entry))) ⌝ }
+    ensures { λ r. ⌜ state (now (tag .exit)) r ≡ registerWritten (state (now (tag .entry)) session) register (now («data» .entry)) ⌝ }
 {
     let pa = session.pa;
     let pin = octets::number16(&pa, 0);

@@ -3,6 +3,7 @@ use mathlib.Core.Path.{ap, _∙_}
 use native.Mathlib.Omega.{arith}
 use lib.ListN.{length, length-set}
 use Rattle.octets.proofs.Laws.{set-put}
+use Rattle.rules.specs.Map.{flagAt}
 use Rattle.rules.specs.State.{owner}
 use Rattle.rules.proofs.BytesLaws.{length-xor}
 use borrow.Author.Needs.{needs}
@@ -44,7 +45,7 @@ returns c =
     let at = c .before .before in
     let masked = at .before .before .before in
     at .store-at .ensures
-    ∙ rw (masked .masked .ensures, set-put 12 1 (masked .before .before .before .before .args .tag .now))
+    ∙ rw (masked .masked .ensures, set-put flagAt 1 (masked .before .before .before .before .args .tag .now))
 
 pub commit-spec : {M : Type 1} → statement M
 commit-spec =

@@ -6,7 +6,7 @@ use Rattle.rules.proofs.Tests.{gives, leaves, none-applies, first-gives, first-
 use Rattle.rules.specs.Bytes.{same}
 use Rattle.rules.specs.State.{pin}
 use Rattle.rules.specs.Answers.{refusalOf}
-use Rattle.registers.proofs.Laws.{index-within}
+use Rattle.registers.proofs.Laws.{index-within, response-parts}
 use borrow.Author.Needs.{needs}
 use Rattle.registers.proofs.judge_response.Statement.{statement}
 use Rattle.registers.proofs.judge_response.Tie as tie
@@ -20,7 +20,7 @@ enum-known-held c = search needs
 returns : tie.Need-returns
 returns c =
     let at = c .before in
-    sym (first-gives _ _ _ (sym (at .before .before .judge-flag .ensures) ∙ ap refusalOf (at .held .given .1)))
+    sym (response-parts _ _ _ ∙ first-gives _ _ _ (sym (at .before .before .judge-flag .ensures) ∙ ap refusalOf (at .held .given .1)))
 
 enum-told : tie.Need-enum-told
 enum-told c = search needs
@@ -29,19 +29,19 @@ mul-response : tie.Need-mul-response
 mul-response c =
     let flagged = c .before .before in
     let i = flagged .before .before .before .args .pin in
-    omega (arith, index-within 9 i 255 _ _ (flagged .judge-flag .ensures) (c .enum-told .given .1))
+    omega (arith, index-within _ i _ (flagged .judge-flag .ensures) (c .enum-told .given .1))
 
 add-response : tie.Need-add-response
 add-response c =
     let flagged = c .before .before in
     let i = flagged .before .before .before .args .pin in
-    omega (arith, index-within 9 i 255 _ _ (flagged .judge-flag .ensures) (c .enum-told .given .1))
+    omega (arith, index-within _ i _ (flagged .judge-flag .ensures) (c .enum-told .given .1))
 
 response-requires : tie.Need-response-requires
 response-requires c κs =
     let flagged = c .before .before in
     let i = flagged .before .before .before .args .pin in
-    omega (arith, index-within 9 i 255 _ _ (flagged .judge-flag .ensures) (c .enum-told .given .1))
+    omega (arith, index-within _ i _ (flagged .judge-flag .ensures) (c .enum-told .given .1))
 
 slice-aggregate-equal : tie.Need-slice-aggregate-equal
 slice-aggregate-equal c = search needs
@@ -56,7 +56,7 @@ returns-2 c =
     let told = at .before in
     let held = sym (told .before .before .judge-flag .ensures) ∙ ap refusalOf (told .enum-told .given .1) in
     let equal = sym (ap (same _) (at .response .ensures)) ∙ sym (c .before .equal .ensures) ∙ c .if1 .taken in
-    sym (first-leaves _ _ held ∙ leaves 11 _ _ (ap not equal) ∙ none-applies)
+    sym (response-parts _ _ _ ∙ first-leaves _ _ held ∙ leaves 11 _ _ (ap not equal) ∙ none-applies)
 
 returns-3 : tie.Need-returns-3
 unfolding pin
@@ -65,7 +65,7 @@ returns-3 c =
     let told = at .before in
     let held = sym (told .before .before .judge-flag .ensures) ∙ ap refusalOf (told .enum-told .given .1) in
     let equal = sym (ap (same _) (at .response .ensures)) ∙ sym (c .before .equal .ensures) ∙ c .if1 .left in
-    sym (first-leaves _ _ held ∙ gives 11 _ _ (ap not equal))
+    sym (response-parts _ _ _ ∙ first-leaves _ _ held ∙ gives 11 _ _ (ap not equal))
 
 pub judge-response-spec : {M : Type 1} → statement M
 judge-response-spec =

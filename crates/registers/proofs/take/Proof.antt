@@ -15,7 +15,7 @@ slice-aggregate-number16 c = search needs
 number16-requires : tie.Need-number16-requires
 number16-requires c κs =
     let start = c .before .before .before .before in
-    omega (arith, simp length-map at (start .good .1 .0 .1 .1 .1 .1 .1 .1 .1 .0 .1 .0 .1))
+    omega (arith, simp length-map at (start .good .1 .0 .1 .1 .1 .1 .0 .1 .0 .1))
 
 enum-told : tie.Need-enum-told
 enum-told c = search needs
@@ -80,7 +80,7 @@ slice-aggregate-number16-2 c = search needs
 number16-requires-2 : tie.Need-number16-requires-2
 number16-requires-2 c κs =
     let start = c .before .before .before .before .before .before .before .before .before in
-    omega (arith, simp length-map at (start .good .1 .0 .1 .1 .1 .1 .1 .1 .1 .0 .1 .0 .1))
+    omega (arith, simp length-map at (start .good .1 .0 .1 .1 .1 .1 .0 .1 .0 .1))
 
 commit-requires : tie.Need-commit-requires
 unfolding ownerIndex
