@@ -21,14 +21,15 @@ use Rattle.rules.specs.Units.{unitOf, unitBytes, wellFormed, nameOf}
 use Rattle.rules.specs.State.{Cipher, State, state}
 use Rattle.rules.specs.Answers.{numberOf, refusalOf}
 use Rattle.rules.specs.Refusals.{Checks, _when_else_, granted, lowest, advanceChecks, canAdvance, isReceiver}
-use Rattle.rules.specs.Effects.{apply, advanceStores, advanced}
+use Rattle.rules.specs.Effects.{apply, advanceStores, advanced, advanceMove}
 use Rattle.rules.specs.Command.{advance, checks, refusal, after, afterBy, stores, newSession}
 use Rattle.rules.proofs.Tests.{true-false, passes, gives, leaves}
 use Rattle.rules.proofs.Refused.{not-11, refused-stays}
 use Rattle.layout.proofs.Laws.{unit-inside, unit-back}
 use Rattle.units.specs.declared.Decoded.the-variants.{Unit as Whole}
-use Rattle.units.specs.Decoded.{decoded, movedTo}
-use Rattle.units.proofs.Laws.{decoded-whole, unit-byte, moved-advanced}
+use Rattle.units.specs.Decoded.{decoded}
+use Rattle.units.proofs.Laws.{decoded-whole}
+use Rattle.rules.proofs.Lawful.{length-advanced}
 use Rattle.units.proofs.FormLaws.{formed}
 use Rattle.moves.specs.declared.Move.{Move}
 use Rattle.moves.specs.declared.Move.the-variants.{Advance, Refuse}
@@ -66,17 +67,7 @@ unfolding advanceChecks
 advance-by i name u x named e f =
     formed u x _ e ∙ rw (decoded-whole u x e .1, f) (sym (leaves 6 false _ refl))
 
-advance-formed : (i : ℕ) (name u : List ℕ) → lowest (advanceChecks i name u) ≡ none → wellFormed u ≡ true
-unfolding advanceChecks
-advance-formed i name u e = not-false _ (passes _ _ _ e .0)
-
 -- ---- advances
-
-length-moved : (g : Stage) (u : List ℕ) → length (movedTo g u) ≡ 2
-unfolding movedTo
-length-moved Zero u = refl
-length-moved One u = refl
-length-moved Two u = refl
 
 module _ (E : Cipher) (s : State) (k : ℕ) where
   pub advance-outside : (m : ℕ) → sound (s .tag) ≡ true → m ≡ segments (s .tag) → not (ltb k m) ≡ true
@@ -101,23 +92,19 @@ module _ (E : Cipher) (s : State) (k : ℕ) where
       j .number ∙ ap (λ u. lowest (advanceChecks (s .session .write) (s .session .name) u)) e ∙ sym (advance-placed w h)
 
   advance-granted : (g : Stage) → refusal E s (advance k) ≡ none → unitOf (unitBytes (s .tag) k) .model ≡ Receiver g
-      → state (put (unitAt k) (advanced (Receiver g) (unitBytes (s .tag) k)) (s .tag)) (s .session)
+      → state (put (unitAt k) (advanced g (unitBytes (s .tag) k)) (s .tag)) (s .session)
       ≡ after E s (advance k)
-  unfolding after afterBy stores newSession advanceStores apply
+  unfolding after afterBy stores newSession advanceStores advanceMove apply
   advance-granted g e m = rw (e, m)
 
   -- what an advance of the unit makes of the tag
   pub advance-moves : (g : Stage) (a : ℕ) (ys : List ℕ) → sound (s .tag) ≡ true → k < segments (s .tag)
       → refusal E s (advance k) ≡ none → unitOf (unitBytes (s .tag) k) .model ≡ Receiver g
-      → byte (unitAt k) (s .tag) < 256 → a ≡ unitAt k
-      → ys ≡ put 0 (movedTo g (unitBytes (s .tag) k)) (unitBytes (s .tag) k)
+      → a ≡ unitAt k → ys ≡ put 0 (advanced g (unitBytes (s .tag) k)) (unitBytes (s .tag) k)
       → state (putMid a (a + 32 - a) (s .tag) ys) (s .session) ≡ after E s (advance k)
-  advance-moves g a ys w h e m l d q =
+  advance-moves g a ys w h e m d q =
       let t = s .tag in
       let u = unitBytes t k in
-      let f = advance-formed _ _ u (sym (advance-placed w h) ∙ e) in
-      let b : byte 0 u < 256 = rw (unit-byte t k) l in
       let i = unit-inside t k w h .inside in
-      let moved = unit-back t k a 0 (unitAt k) (movedTo g u) ys d i (omega arith) (omega (arith, length-moved g u)) q in
-      ap (λ x. state x (s .session)) (moved ∙ ap (λ x. put (unitAt k) x t) (moved-advanced u g b f m))
-      ∙ advance-granted g e m
+      let moved = unit-back t k a 0 (unitAt k) (advanced g u) ys d i (omega arith) (omega (arith, length-advanced g u)) q in
+      ap (λ x. state x (s .session)) moved ∙ advance-granted g e m

@@ -18,15 +18,6 @@ use rules::Refusal;
 use rules::Register;
 use rules::Session;
 
-// The address of the usage flag.
-const FLAG: usize = 12;
-
-// The address of owner PIN 0.
-const OWNERS: usize = 16;
-
-// The address of PIN 0.
-const PINS: usize = 4096;
-
 // The counter, enciphered by the key at an address.
 fn response(tag: &[u8], key: usize) -> [u8; 16]
     requires { ⌜ (16 ≤ length (now tag)) × (key + 16 ≤ length (now tag)) ⌝ }
@@ -46,7 +37,7 @@ fn judge_flag(tag: &[u8], pin: usize) -> Answer
     if 255 < pin {
         return Answer::Refused(Refusal::BadRegister);
     }
-    if tag[FLAG] == 1 {
+    if tag[layout::FLAG] == 1 {
         return Answer::Refused(Refusal::FlagUsed);
     }
     Answer::Done
@@ -61,7 +52,7 @@ fn judge_response(tag: &[u8], pin: usize, data: &[u8]) -> Answer
     if let Answer::Refused(r) = held {
         return Answer::Refused(r);
     }
-    let wanted = response(tag, PINS + 16 * pin);
+    let wanted = response(tag, layout::PINS + 16 * pin);
     if octets::equal(data, &wanted) {
         Answer::Done
     } else {
@@ -74,7 +65,7 @@ fn guard_fits(tag: &[u8], owner: usize, guard: &[u8], data: &[u8]) -> bool
     requires { ⌜ (readersAt ≤ length (now tag)) × (owner ≤ 3) × (length (now «data») ≡ 16) ⌝ }
     ensures { λ r. ⌜ r ≡ same (now (guard .entry)) (part 4 12 (E (states.owner (now (tag .entry)) owner) (now («data» .entry)))) ⌝ }
 {
-    let start = OWNERS + 16 * owner;
+    let start = layout::OWNERS + 16 * owner;
     let end = start + 16;
     let key = octets::sixteen(&tag[start..end]);
     let enciphered = xxtea::encipher_block(key, octets::sixteen(data));
@@ -134,9 +125,9 @@ fn commit(tag: &mut [u8], pin: usize, owner: usize, data: &[u8])
     requires { ⌜ (readersAt ≤ length (now tag)) × (pin ≤ 255) × (owner ≤ 3) × (length (now «data») ≡ 16) ⌝ }
     ensures { λ _. ⌜ now (tag .exit) ≡ committed (now (tag .entry)) pin owner (now («data» .entry)) ⌝ }
 {
-    let new = masked(tag, OWNERS + 16 * owner, data);
-    tag[FLAG] = 1;
-    octets::store_at(tag, PINS + 16 * pin, &new);
+    let new = masked(tag, layout::OWNERS + 16 * owner, data);
+    tag[layout::FLAG] = 1;
+    octets::store_at(tag, layout::PINS + 16 * pin, &new);
 }
 
 // A granted write of a register.
@@ -149,20 +140,20 @@ pub fn take(tag: &mut [u8], session: Session, register: Register, data: &[u8]) -
     let mut next = session;
     match register {
         Register::Read => {
-            tag[FLAG] = 1;
+            tag[layout::FLAG] = 1;
             next.read = pin;
         }
         Register::Write => {
-            tag[FLAG] = 1;
+            tag[layout::FLAG] = 1;
             next.write = pin;
         }
         Register::Edit => {
-            tag[FLAG] = 1;
+            tag[layout::FLAG] = 1;
             next.edit = pin;
         }
         Register::Name => {
-            let name = masked(tag, PINS + 16 * pin, data);
-            tag[FLAG] = 1;
+            let name = masked(tag, layout::PINS + 16 * pin, data);
+            tag[layout::FLAG] = 1;
             next.name = name;
         }
         Register::Id => {

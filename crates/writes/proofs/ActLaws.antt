@@ -26,7 +26,7 @@ use Rattle.rules.specs.Map.{sound, placeOf, unitAt}
 use Rattle.rules.specs.Units.{unitBytes, unitOf, wellFormed}
 use Rattle.rules.specs.State.{State, state, pinIndex, ownerIndex}
 use Rattle.rules.specs.Answers.{refusalOf, numberOf}
-use Rattle.rules.specs.Refusals.{lowest, writeChecks, segmentWriteChecks, registerChecks, plainChecks, responseChecks, nameChecks, commitChecks}
+use Rattle.rules.specs.Refusals.{lowest, writeChecks, segmentWriteChecks, registerChecks, blockChecks, nameChecks, commitChecks}
 use Rattle.rules.specs.Effects.{Store, _↤_, apply, stored, readOnly, writeMove, registerStores, registerSession, writeStores, writeSession, refusalStores}
 use Rattle.rules.specs.Command.{write, refusal as refused-by, checks, after, afterBy, newSession, sessionIn}
 use Rattle.rules.proofs.Tests.{some-none, same-some, passes}
@@ -34,8 +34,7 @@ use Rattle.rules.proofs.Places.{the-map}
 use Rattle.rules.proofs.MapLaws.{sound-long}
 use Rattle.rules.proofs.Refused.{eleven-or-none}
 use Rattle.rules.proofs.Grants.{granted-write, stores-write, commit-facts}
-use Rattle.units.specs.Decoded.{opened}
-use Rattle.units.proofs.Laws.{once-writable, opened-read-only, unit-byte}
+use Rattle.units.proofs.Laws.{unit-byte}
 use Rattle.octets.proofs.Laws.{xor-swap, length-lent}
 use Rattle.writes.specs.declared.judging.Verdict.{Verdict}
 use Rattle.writes.specs.declared.judging.Verdict.the-variants as verdict
@@ -48,10 +47,6 @@ use Rattle.writes.proofs.judging.Verdict as the-verdict
 
 clash : {A : Type 0} → _≡_ {A = ℕ} 0 1 → A
 clash e = absurd (omega arith)
-
--- every element is a byte
-abbrev pub Bytes : List ℕ → Type 0
-Bytes t = (i : ℕ) → byte i t < 256
 
 -- a verdict's stores, those of a register too, and its session
 unfoldable pub madeBy : Verdict → State → ℕ → List ℕ → List Store
@@ -102,7 +97,7 @@ answer-done (verdict.Take r) m = refl
 answer-done (verdict.Refuse r) m = absurd (miss acting 6 tt m)
 
 abbrev pub quiets : List ℕ
-quiets = 0 ∷ 1 ∷ 2 ∷ 3 ∷ 4 ∷ 5 ∷ 6 ∷ 7 ∷ 8 ∷ 9 ∷ 11 ∷ 12 ∷ 13 ∷ 14 ∷ 15 ∷ 16 ∷ 17 ∷ []
+quiets = 0 ∷ 1 ∷ 2 ∷ 3 ∷ 4 ∷ 5 ∷ 6 ∷ 7 ∷ 8 ∷ 9 ∷ 11 ∷ 12 ∷ 13 ∷ 14 ∷ 15 ∷ 16 ∷ []
 
 pub quiet : (r : Refusal) → OneOf quiets (tagOf the-refusal.the-type r) → refusalStores (numberOf r) ≡ []
 quiet r m = by (eleven-or-none r)
@@ -114,33 +109,18 @@ quiet r m = by (eleven-or-none r)
 -- ---- what a granted write stores in its place is what the rules say
 
 module _ (s : State) (a : ℕ) (bs : List ℕ) where
-  segment-stores : (k : ℕ) (m : Model) → unitOf (unitBytes (s .tag) k) .model ≡ m → Bytes (s .tag)
-      → a + length bs ≤ length (s .tag) → wellFormed (unitBytes (s .tag) k) ≡ true
-      → unitOf (unitBytes (s .tag) k) .wr ≡ true
+  segment-stores : (k : ℕ) (m : Model) → a + length bs ≤ length (s .tag)
       → madeBy (actOf k m) s a bs
       ≡ ((a ↤ stored m (part a (length bs) (s .tag)) bs) ∷ writeMove m (unitAt k) (unitBytes (s .tag) k))
   unfolding madeBy actOf storesBy stored writeMove
-  segment-stores k Default e b l w h = refl
-  segment-stores k WriteOnce e b l w h =
-      let u = unitBytes (s .tag) k in
-      let low : byte 0 u < 256 = rw (unit-byte (s .tag) k) (b (unitAt k)) in
-      let r : opened (byte 0 u) ≡ readOnly (byte 0 u) =
-      unfold unitOf in (opened-read-only (byte 0 u) low h (once-writable u w e h)) in
-      ap (λ x. (a ↤ bs) ∷ (unitAt k ↤ (x ∷ [])) ∷ []) (ap opened (sym (unit-byte (s .tag) k)) ∙ r)
-  segment-stores k Counter e b l w h = refl
-  segment-stores k (Receiver Zero) e b l w h = refl
-  segment-stores k (Receiver One) e b l w h =
+  segment-stores k Default l = refl
+  segment-stores k WriteOnce l = rw (unit-byte (s .tag) k)
+  segment-stores k Counter l = refl
+  segment-stores k (Receiver Zero) l = refl
+  segment-stores k (Receiver One) l =
       ap (λ xs. (a ↤ xs) ∷ []) (xor-swap (part a (length bs) (s .tag)) bs (length-lent a (length bs) (s .tag) l))
-  segment-stores k (Receiver Two) e b l w h = refl
-  segment-stores k (SharedKey g) e b l w h = refl
-
-  writable : (k : ℕ) → lowest (writeChecks E s (Segment k) a bs) ≡ none
-      → (wellFormed (unitBytes (s .tag) k) ≡ true) × (unitOf (unitBytes (s .tag) k) .wr ≡ true)
-  unfolding writeChecks segmentWriteChecks
-  writable k f =
-      let c5 = passes _ _ _ f in
-      let c6 = passes _ _ _ (c5 .1) in
-      (not-false _ (c5 .0), not-false _ (c6 .0))
+  segment-stores k (Receiver Two) l = refl
+  segment-stores k (SharedKey g) l = refl
 
   kept : (k : ℕ) (m : Model) → sessionBy (actOf k m) s bs ≡ s .session
   unfolding sessionBy actOf
@@ -152,22 +132,21 @@ module _ (s : State) (a : ℕ) (bs : List ℕ) where
   kept k (Receiver Two) = refl
   kept k (SharedKey g) = refl
 
-  granted-in : (p : Place) → sound (s .tag) ≡ true → Bytes (s .tag) → placeOf (s .tag) a (length bs) ≡ some p
+  granted-in : (p : Place) → sound (s .tag) ≡ true → placeOf (s .tag) a (length bs) ≡ some p
       → lowest (writeChecks E s p a bs) ≡ none
       → (madeBy (actIn (s .tag) p) s a bs ≡ writeStores E s p a bs)
       × (sessionBy (actIn (s .tag) p) s bs ≡ writeSession E s p bs)
   unfolding actIn madeBy sessionBy storesBy writeStores writeSession writeChecks lowest
-  granted-in Header w b e f = (refl, refl)
-  granted-in Hidden w b e f = some-none f
-  granted-in (RegisterOf r) w b e f = (refl, refl)
-  granted-in Pins w b e f = some-none f
-  granted-in Readers w b e f = some-none f
-  granted-in (UnitOf k) w b e f = (refl, refl)
-  granted-in Spare w b e f = some-none f
-  granted-in (Segment k) w b e f =
-      let x = writable k f in
-      (segment-stores k _ refl b (the-map (s .tag) w .in-tag (Segment k) a (length bs) e) (x .0) (x .1), kept k _)
-  granted-in (Public k) w b e f = (refl, refl)
+  granted-in Header w e f = (refl, refl)
+  granted-in Hidden w e f = some-none f
+  granted-in (RegisterOf r) w e f = (refl, refl)
+  granted-in Pins w e f = some-none f
+  granted-in Readers w e f = some-none f
+  granted-in (UnitOf k) w e f = (refl, refl)
+  granted-in Spare w e f = some-none f
+  granted-in (Segment k) w e f =
+      (segment-stores k _ (the-map (s .tag) w .in-tag (Segment k) a (length bs) e), kept k _)
+  granted-in (Public k) w e f = (refl, refl)
 
   -- ---- the state after a write
 
@@ -182,17 +161,16 @@ module _ (s : State) (a : ℕ) (bs : List ℕ) where
   refused (verdict.Take r) n e = some-none (sym e)
   refused (verdict.Refuse r) n e = ap (λ m. state (apply (refusalStores m) (s .tag)) (s .session)) (same-some e)
 
-  pub left : (v : Verdict) → sound (s .tag) ≡ true → Bytes (s .tag)
-      → WriteJudged s a bs v
+  pub left : (v : Verdict) → sound (s .tag) ≡ true → WriteJudged s a bs v
       → state (apply (madeBy v s a bs) (s .tag)) (sessionBy v s bs) ≡ after E s (write a bs)
   unfolding refused-by after afterBy newSession sessionIn
-  left v w b j = by (lowest (checks E s (write a bs))) refl
+  left v w j = by (lowest (checks E s (write a bs))) refl
     where
       by : (o : Option ℕ) → lowest (checks E s (write a bs)) ≡ o
           → state (apply (madeBy v s a bs) (s .tag)) (sessionBy v s bs) ≡ afterBy o E s (write a bs)
       by none e =
           let g = granted-write E s a bs e in
-          let x = granted-in (g .place) w b (g .found) (g .free) in
+          let x = granted-in (g .place) w (g .found) (g .free) in
           let is : v ≡ actIn (s .tag) (g .place) = j .granted e ∙ ap (actAt (s .tag)) (g .found) in
           rw (is, x .0, x .1, stores-write E s a bs (g .place) (g .found), g .found)
       by (some n) e = refused v n (j .number ∙ e)
@@ -279,21 +257,15 @@ module _ (s : State) (a : ℕ) (bs : List ℕ) where
   Passed r = lowest (registerChecks E s r bs) ≡ none
 
   whole : (r : Register) → Passed r → length bs ≡ 16
-  unfolding Passed registerChecks plainChecks responseChecks nameChecks commitChecks
-  whole Read e = eqb-true _ _ (not-false _ (passes _ _ _ e .0))
-  whole Write e = eqb-true _ _ (not-false _ (passes _ _ _ e .0))
-  whole Edit e = eqb-true _ _ (not-false _ (passes _ _ _ e .0))
-  whole Name e = eqb-true _ _ (not-false _ (passes _ _ _ e .0))
-  whole Id e = eqb-true _ _ (not-false _ (passes _ _ _ e .0))
-  whole Commit e = eqb-true _ _ (not-false _ (passes _ _ _ e .0))
-  whole Pa e = eqb-true _ _ (not-false _ (passes _ _ _ e .0))
+  unfolding Passed registerChecks
+  whole r e = eqb-true _ _ (not-false _ (passes _ _ _ e .0))
 
   named : Passed Name → pinIndex (s .session) ≤ 255
-  unfolding Passed registerChecks nameChecks
+  unfolding Passed registerChecks blockChecks nameChecks
   named e = leb-true _ _ (not-false _ (passes _ _ _ (passes _ _ _ e .1) .0))
 
   owned : Passed Commit → ownerIndex (s .session) ≤ 3
-  unfolding Passed registerChecks commitChecks
+  unfolding Passed registerChecks blockChecks commitChecks
   owned e =
       let c1 = passes _ _ _ (passes _ _ _ e .1) in
       let c2 = passes _ _ _ (c1 .1) in

@@ -17,9 +17,8 @@ use Rattle.rules.specs.Units.{unitBytes, unitOf}
 use Rattle.rules.specs.State.{State}
 use Rattle.rules.specs.Answers.{refusalOf, numberOf}
 use Rattle.rules.specs.Refusals.{Checks, lowest, writeChecks}
-use Rattle.rules.specs.Effects.{Store, _↤_, setFlag, refusalStores}
+use Rattle.rules.specs.Effects.{Store, _↤_, setFlag, readOnly, refusalStores}
 use Rattle.rules.specs.Command.{checks, write}
-use Rattle.units.specs.Decoded.{opened}
 use Rattle.xxtea.specs.Block.{E}
 use Rattle.writes.specs.declared.judging.Verdict.{Verdict}
 use Rattle.writes.specs.declared.judging.Verdict.the-variants as verdict
@@ -83,7 +82,7 @@ WriteJudged s a bs v = Judged (checks E s (write a bs)) (actAt (s .tag) (placeOf
 unfoldable pub storesBy : Verdict → List ℕ → ℕ → List ℕ → List Store
 storesBy verdict.Store t a bs = (a ↤ bs) ∷ []
 storesBy verdict.Xor t a bs = (a ↤ xor (part a (length bs) t) bs) ∷ []
-storesBy (verdict.StoreOnce k) t a bs = (a ↤ bs) ∷ (unitAt k ↤ (opened (byte (unitAt k) t) ∷ [])) ∷ []
+storesBy (verdict.StoreOnce k) t a bs = (a ↤ bs) ∷ (unitAt k ↤ (readOnly (byte (unitAt k) t) ∷ [])) ∷ []
 storesBy (verdict.Edit k) t a bs = (a ↤ bs) ∷ []
 storesBy verdict.NextCount t a bs = (a ↤ bs) ∷ setFlag 0 ∷ []
 storesBy (verdict.Take r) t a bs = []

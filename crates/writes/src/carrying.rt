@@ -6,8 +6,7 @@ ghost use lib.ListN.{length};
 ghost use Rattle.rules.specs.Bytes.{byte, put};
 ghost use Rattle.rules.specs.Map.{unitAt};
 ghost use Rattle.rules.specs.Answers.{numberOf};
-ghost use Rattle.rules.specs.Effects.{apply, refusalStores};
-ghost use Rattle.units.specs.Decoded.{opened};
+ghost use Rattle.rules.specs.Effects.{apply, readOnly, refusalStores};
 ghost use Rattle.writes.specs.Verdict.{storesBy, Fits};
 use crate::judging::Verdict;
 use rules::Refusal;
@@ -25,7 +24,7 @@ fn note_refusal(tag: &mut [u8], refusal: Refusal)
 // The data goes to the address, and the control byte of unit k has RD set and WR cleared.
 fn store_once(tag: &mut [u8], at: usize, data: &[u8], k: usize)
     requires { ⌜ (at + length (now «data») ≤ length (now tag)) × (unitAt k < length (now tag)) ⌝ }
-    ensures { λ _. ⌜ now (tag .exit) ≡ put (unitAt k) (opened (byte (unitAt k) (now (tag .entry))) ∷ []) (put at (now («data» .entry)) (now (tag .entry))) ⌝ }
+    ensures { λ _. ⌜ now (tag .exit) ≡ put (unitAt k) (readOnly (byte (unitAt k) (now (tag .entry))) ∷ []) (put at (now («data» .entry)) (now (tag .entry))) ⌝ }
 {
     let unit = layout::unit_at(k);
     let control = units::read_only(tag[unit]);

@@ -8,7 +8,6 @@ ghost use Rattle.rules.specs.declared.Model.the-variants.{Counter};
 ghost use Rattle.rules.specs.declared.Place.the-variants.{UnitOf, Segment};
 ghost use Rattle.rules.specs.Bytes.{put};
 ghost use Rattle.rules.specs.Map.{sound, segments, placeOf, unitAt, segmentAt};
-ghost use Rattle.rules.specs.Units.{unitOf};
 ghost use Rattle.rules.specs.State.{state};
 ghost use Rattle.rules.specs.Answers.{refusalOf};
 ghost use Rattle.rules.specs.Refusals.{lowest, valueChecks, slotChecks, headerWriteChecks};
@@ -157,8 +156,8 @@ fn judge_segment_at(tag: &[u8], session: Session, k: usize, at: usize, data: &[u
 
 // Whether a unit of this model may become what an edit makes of it.
 fn edit_fits(model: Model, unit: &[u8], offset: usize, data: &[u8]) -> bool
-    requires { ⌜ (length (now unit) ≡ 32) × (offset + length (now «data») ≤ 32) × (model ≡ unitOf (now unit) .model) ⌝ }
-    ensures { λ r. ⌜ r ≡ editAllowed (now (unit .entry)) (put offset (now («data» .entry)) (now (unit .entry))) ⌝ }
+    requires { ⌜ (length (now unit) ≡ 32) × (offset + length (now «data») ≤ 32) ⌝ }
+    ensures { λ r. ⌜ r ≡ editAllowed model (now (unit .entry)) (put offset (now («data» .entry)) (now (unit .entry))) ⌝ }
 {
     let mut edited = [0u8; 32];
     octets::store(&mut edited, unit);

@@ -93,9 +93,9 @@ returns-2 c =
     let number = advance-judged _ _ k _ _ (start .pre) (there .among) read (judged .judge-advance .ensures) in
     let none = sym number ∙ ap (λ v. refusalOf (moveAnswer v)) told in
     let model = rw read at (judged .judge-advance .ensures .granted _ told) in
-    let byte = at .before .before .before .slice-known .given (unitAt k) in (
+    (
       sym none,
-      advance-moves _ _ k _ _ _ (start .pre) (there .among) none model (omega (arith, byte)) start-at
+      advance-moves _ _ k _ _ _ (start .pre) (there .among) none model start-at
           (rw (unit-lent t k _ start-at) at (c .before .before .advance .ensures)),
     )
 

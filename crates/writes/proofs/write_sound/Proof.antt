@@ -10,7 +10,7 @@ use Rattle.rules.specs.Command.{write, refusal, checks}
 use Rattle.rules.proofs.MapLaws.{sound-long}
 use Rattle.xxtea.specs.Block.{E}
 use Rattle.writes.specs.Verdict.{Judged, actAt}
-use Rattle.writes.proofs.ActLaws.{Bytes, madeBy, sessionBy, not-taken, left, fit, taken}
+use Rattle.writes.proofs.ActLaws.{madeBy, sessionBy, not-taken, left, fit, taken}
 use borrow.Author.Needs.{needs}
 use Rattle.writes.proofs.write_sound.Statement.{statement}
 use Rattle.writes.proofs.write_sound.Tie as tie
@@ -48,8 +48,7 @@ returns c =
     let act = actAt (s .tag) (placeOf (s .tag) (a .at) (length bs)) in
     let k =
     subst (Judged (checks E s (write (a .at) bs)) act) (told .verdict .given .1) (judged .judge-write .ensures) in
-    let b : Bytes (a .tag .now) = λ i. known .slice-known .given i .fits in
-    record { answered = k .number; left = c .before .before .take .ensures ∙ left s (a .at) bs _ w b k }
+    record { answered = k .number; left = c .before .before .take .ensures ∙ left s (a .at) bs _ w k }
 
 carry-out-requires : tie.Need-carry-out-requires
 carry-out-requires c κs =
@@ -80,10 +79,9 @@ returns-2 c =
     let j = judged .judge-write .ensures in
     let x = not-taken (judged .judge-write .result) s (a .at) bs (told .match .keys2) in
     let tag = c .before .before .before .carry-out .ensures ∙ ap (λ ss. apply ss (a .tag .now)) (sym (x .0)) in
-    let b : Bytes (a .tag .now) = λ i. known .slice-known .given i .fits in
     record {
       answered = ap refusalOf (c .answer-of .ensures) ∙ j .number;
-      left = ap₂ state tag (sym (x .1)) ∙ left s (a .at) bs _ w b j;
+      left = ap₂ state tag (sym (x .1)) ∙ left s (a .at) bs _ w j;
     }
 
 pub write-sound-spec : {M : Type 1} → statement M

@@ -2,7 +2,7 @@
 use mathlib.Core.Path.{ap, ap₂, _∙_}
 use mathlib.Core.List.{[], _∷_}
 use Rattle.rules.specs.Bytes.{byte, put}
-use Rattle.units.specs.Decoded.{opened}
+use Rattle.rules.specs.Effects.{readOnly}
 use Rattle.octets.proofs.Laws.{set-put, store-back}
 use borrow.Author.Needs.{needs}
 use Rattle.writes.proofs.carrying.store_once.Statement.{statement}
@@ -49,7 +49,7 @@ returns c =
     let i = at .unit-at .result in
     let back = store-back (a .at) (a .«data» .now) t _ (start .pre .0) (stored .store .ensures) in
     set-put i _ _ ∙ ap₂ (λ v t. put i (v ∷ []) t) (read .read-only .ensures) back
-    ∙ ap (λ i. put i (opened (byte i t) ∷ []) (put (a .at) (a .«data» .now) t)) (at .unit-at .ensures)
+    ∙ ap (λ i. put i (readOnly (byte i t) ∷ []) (put (a .at) (a .«data» .now) t)) (at .unit-at .ensures)
 
 pub store-once-spec : {M : Type 1} → statement M
 store-once-spec =

@@ -30,8 +30,8 @@ returns c =
     let at = c .before .before .before in
     let store = at .before .before .before in
     let start = store .before .before .before .before in
-    c .edit-allowed .ensures (start .pre .2)
-    ∙ ap (editAllowed (start .args .unit .now))
+    c .edit-allowed .ensures
+    ∙ ap (editAllowed (start .args .model) (start .args .unit .now))
     (at .edit .ensures
     ∙ ap (put (start .args .offset) (start .args .«data» .now)) (store .store .ensures ∙ put-whole _ _ (start .pre .0)))
 

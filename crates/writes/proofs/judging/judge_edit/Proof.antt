@@ -44,7 +44,7 @@ edit-by : (s : State) (k at : ℕ) (bs u : List ℕ) (x : Unit) → u ≡ unitBy
     → unitAt k ≤ at
     → lowest (writeChecks E s (UnitOf k) at bs)
     ≡ lowest (6 when x .ne else 7 when not (eqb (s .session .edit) (x .edit)) else
-    13 when listed k (hosts (s .tag)) else 13 when not (editAllowed u (put (at - unitAt k) bs u)) else granted)
+    13 when listed k (hosts (s .tag)) else 13 when not (editAllowed (x .model) u (put (at - unitAt k) bs u)) else granted)
 unfolding writeChecks editChecks
 edit-by s k at bs u x e d h =
     rw (unit-edited k at bs (s .tag) u e h, ← e) (formed u x _ d ∙ rw (decoded-whole u x d .1))
@@ -96,12 +96,8 @@ edit-fits-requires : tie.Need-edit-fits-requires
 edit-fits-requires c κs =
     let unit = c .before .before .before .before .before .before .before in
     let decode = unit .before .before in
-    let whole = sym (decode .decode .ensures) ∙ unit .u .given .1 in
-    let s = decode .before .before .before .before in (
-      unit-length _ _ _ (decode .before .unit-of .ensures) (s .pre .2),
-      omega (arith, c .before .unit-at .ensures),
-      ap (λ x. x .model) (decoded-whole _ _ whole .1),
-    )
+    let s = decode .before .before .before .before in
+    (unit-length _ _ _ (decode .before .unit-of .ensures) (s .pre .2), omega (arith, c .before .unit-at .ensures))
 
 returns-4 : tie.Need-returns-4
 returns-4 c =
