@@ -6,11 +6,11 @@ use mathlib.Core.List.{List, _++_}
 use native.Mathlib.Omega.{arith}
 use lib.ListN.{length}
 use borrow.Rule.Slice.PartMut.{midOf, putMid}
-use Rattle.rules.specs.Bytes.{byte, bytesOf, part, put}
-use Rattle.rules.specs.Map.{segments, segmentsAt, sound, unitAt}
+use Rattle.rules.specs.Bytes.{bytesOf, part, put}
+use Rattle.rules.specs.Map.{readersAt, segments, segmentsAt, sound, unitAt}
 use Rattle.rules.specs.Units.{unitBytes}
-use Rattle.rules.specs.Hosts.{hostAt, hosts, readers}
-use Rattle.rules.specs.Effects.{apply, insertStores, rowStore}
+use Rattle.rules.specs.Hosts.{rowAt, hostAt, hosts, readers}
+use Rattle.rules.specs.Effects.{apply, inserted, insertStores, rowStore}
 use Rattle.rules.proofs.BytesLaws.{length-put, part-put}
 use Rattle.rules.proofs.MapLaws.{sound-long, sizes}
 use Rattle.rules.proofs.StoreLaws.{apply-part}
@@ -20,13 +20,11 @@ use Rattle.rules.proofs.HostList.{each-at, at-host}
 use Rattle.rules.proofs.SlotPairs.{Beside}
 use Rattle.rules.proofs.SharedKeys.{all-beside, own-end}
 use Rattle.octets.proofs.Laws.{put-back, put-part, part-lent, length-lent}
-use Rattle.units.specs.Decoded.{readMoved}
-use Rattle.units.proofs.Laws.{unit-byte, moved-inserted}
 use Rattle.hosts.specs.Joining.{Insertable, Rows, allPaired}
 
 -- what the code asks of the sizes
 pub record Sized (t : List ℕ) (k : ℕ) (id : List ℕ) : Type 0 where
-  pub long : 12288 ≤ length t
+  pub long : unitAt 0 ≤ length t
   pub inside : unitAt k + 32 ≤ length t
   pub small : k < 65536
   pub few : length (hosts t) < 85
@@ -72,7 +70,7 @@ module _ (t : List ℕ) (k : ℕ) (id : List ℕ) (insertable : Insertable t k i
 
   -- neither the pairs nor the row touch its unit
   unit-stays : (t₂ : List ℕ)
-      → t₂ ≡ put (8192 + 18 * length (hosts t)) (id ++ bytesOf 2 (k + 1)) (apply (pairsOf t k id) t)
+      → t₂ ≡ put (readersAt + rowAt (length (hosts t))) (id ++ bytesOf 2 (k + 1)) (apply (pairsOf t k id) t)
       → part (unitAt k) 32 t₂ ≡ unitBytes t k
   unfolding unitBytes
   unit-stays t₂ e =
@@ -80,30 +78,29 @@ module _ (t : List ℕ) (k : ℕ) (id : List ℕ) (insertable : Insertable t k i
       let h = f .there in
       let z = row-end t k id f in
       ap (part (unitAt k) 32) e
-      ∙ part-put (unitAt k) 32 (8192 + 18 * length (hosts t)) (id ++ bytesOf 2 (k + 1)) (apply (pairsOf t k id) t) (omega arith)
+      ∙ part-put (unitAt k) 32 (readersAt + rowAt (length (hosts t))) (id ++ bytesOf 2 (k + 1)) (apply (pairsOf t k id) t) (omega arith)
       ∙ apply-part (unitAt k) 32 (pairsOf t k id) t (pairs-off t k id (unitAt k) 32 w f (omega arith) (λ l o. omega arith))
 
   -- the tag after the pairs, and after the row; the unit is as it was
-  pub inserted-all : (x : ℕ) (t₁ t₂ ys : List ℕ) → byte (unitAt k) t < 256 → x ≡ length (hosts t)
+  pub inserted-all : (x : ℕ) (t₁ t₂ ys : List ℕ) → x ≡ length (hosts t)
       → t₁ ≡ allPaired t x k id
-      → t₂ ≡ put (8192 + 18 * x) (id ++ bytesOf 2 (k + 1)) t₁ → length t₂ ≡ length t
-      → ys ≡ put 0 (readMoved (midOf (unitAt k) (unitAt k + 32 - unitAt k) t₂)) (midOf (unitAt k) (unitAt k + 32 - unitAt k) t₂)
+      → t₂ ≡ put (readersAt + rowAt x) (id ++ bytesOf 2 (k + 1)) t₁ → length t₂ ≡ length t
+      → ys ≡ put 0 (inserted (midOf (unitAt k) (unitAt k + 32 - unitAt k) t₂)) (midOf (unitAt k) (unitAt k + 32 - unitAt k) t₂)
       → putMid (unitAt k) (unitAt k + 32 - unitAt k) t₂ ys ≡ apply (insertStores t k id) t
   unfolding insertStores rowStore apply
-  inserted-all x t₁ t₂ ys b q e₁ e₂ l e₃ =
+  inserted-all x t₁ t₂ ys q e₁ e₂ l e₃ =
       let a = unitAt k in
       let u = unitBytes t k in
       let row = id ++ bytesOf 2 (k + 1) in
       let first : t₁ ≡ apply (pairsOf t k id) t = rw q at e₁ in
-      let second : t₂ ≡ put (8192 + 18 * length (hosts t)) row (apply (pairsOf t k id) t) =
-      e₂ ∙ ap₂ (λ n v. put (8192 + 18 * n) row v) q first in
+      let second : t₂ ≡ put (readersAt + rowAt (length (hosts t))) row (apply (pairsOf t k id) t) =
+      e₂ ∙ ap₂ (λ n v. put (readersAt + rowAt n) row v) q first in
       let inside : a + 32 ≤ length t₂ = omega (arith, insert-sizes .inside, l) in
       let same : part a 32 t₂ ≡ u = unit-stays t₂ second in
-      let ms = readMoved u in
-      let two : length ms ≡ 2 = unfold readMoved in refl in
-      let low : byte 0 u < 256 = rw (unit-byte t k) b in
+      let ms = inserted u in
+      let two : length ms ≡ 2 = unfold inserted in refl in
       let back = put-back a 32 t₂ ys (put 0 ms (part a 32 t₂))
-      (e₃ ∙ ap (λ v. put 0 (readMoved v) v) (part-lent a 32 t₂) ∙ ap (λ v. put 0 (readMoved v) (part a 32 t₂)) same)
+      (e₃ ∙ ap (λ v. put 0 (inserted v) v) (part-lent a 32 t₂) ∙ ap (λ v. put 0 (inserted v) (part a 32 t₂)) same)
       (length-put 0 ms (part a 32 t₂) ∙ length-lent a 32 t₂ inside) inside in
-      back ∙ put-part a 32 ms t₂ (omega (arith, two)) ∙ ap₂ (put a) (moved-inserted u low (f .formed) (f .filling)) second
+      back ∙ put-part a 32 ms t₂ (omega (arith, two)) ∙ ap (put a ms) second
       ∙ sym (apply-append (pairsOf t k id) _ t)

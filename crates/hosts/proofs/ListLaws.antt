@@ -7,18 +7,19 @@ use native.Mathlib.Omega.{arith}
 use lib.ListN.{length, replicate, length-replicate}
 use lib.Dec.{eqb, leb}
 use Rattle.rules.specs.Bytes.{all, put, zeros}
-use Rattle.rules.specs.Hosts.{Host, hostAt, hosts, hostsFrom, readers, mostHosts, listed, misses, readable}
+use Rattle.rules.specs.Map.{readersAt, unitAt}
+use Rattle.rules.specs.Hosts.{Host, rowAt, hostAt, hosts, hostsFrom, readers, mostHosts, listed, misses, readable}
 use Rattle.rules.proofs.HostList.{short-list}
 use Rattle.octets.proofs.Laws.{length-lent, put-whole}
 use Rattle.hosts.specs.Joining.{rowsFrom, rowsIn}
 
-pub readers-length : (t r : List ℕ) → r ≡ readers t → 12288 ≤ length t → length r ≡ 4096
+pub readers-length : (t r : List ℕ) → r ≡ readers t → unitAt 0 ≤ length t → length r ≡ 4096
 unfolding readers
-readers-length t r e h = ap length e ∙ length-lent 8192 4096 t (omega arith)
+readers-length t r e h = ap length e ∙ length-lent readersAt 4096 t (omega arith)
 
 pub id-length : (r : List ℕ) (i : ℕ) → length r ≡ 4096 → i < 85 → length (hostAt r i .id) ≡ 16
 unfolding hostAt
-id-length r i e h = length-lent (18 * i) 16 r (omega arith)
+id-length r i e h = length-lent (rowAt i) 16 r (omega arith)
 
 -- sixteen bytes that are copied from a row's id are the id
 pub id-copied : (r : List ℕ) (i : ℕ) (lent copy : List ℕ) → length r ≡ 4096 → i < 85 → lent ≡ hostAt r i .id

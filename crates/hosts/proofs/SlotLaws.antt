@@ -7,7 +7,7 @@ use native.Mathlib.Omega.{arith}
 use lib.ListN.{length, replicate, length-append, length-replicate}
 use lib.Seq.{ext-getD}
 use Rattle.rules.specs.Bytes.{byte, number, part, put, xor, Apart}
-use Rattle.rules.specs.Map.{segments}
+use Rattle.rules.specs.Map.{segments, readersAt}
 use Rattle.rules.specs.Hosts.{Host, hostAt, hosts, readers, hostSlotAt, mostHosts, slotId, slotKey, slotMask}
 use Rattle.rules.specs.Effects.{apply, joinedSlot, pairStores, joinStores}
 use Rattle.rules.proofs.BytesLaws.{byte-part, length-part, length-xor, length-put, part-put, put-append}
@@ -177,7 +177,7 @@ joined-next t₀ t base x k i id l j =
     let u = rowPaired t x k id i in
     let s = j .rows .start in
     let above = j .rows .above in
-    let same : readers u ≡ readers t = (unfold readers in pair-below a b other id t 8192 4096 (omega arith) (omega arith)) in
+    let same : readers u ≡ readers t = (unfold readers in pair-below a b other id t readersAt 4096 (omega arith) (omega arith)) in
     let segs : segments u ≡ segments t =
     (unfold segments in ap number (pair-below a b other id t 0 2 (omega arith) (omega arith))) in
     let long = pair-length a b other id t in

@@ -6,7 +6,7 @@ use mathlib.Core.Logic.{_≢_}
 use mathlib.Core.Bool.{true, false}
 use mathlib.Core.List.{List}
 use lib.ListN.{length}
-use Rattle.rules.specs.Map.{segments, segmentsAt, sound}
+use Rattle.rules.specs.Map.{segments, segmentsAt, sound, unitAt}
 use Rattle.rules.specs.Units.{wellFormed, unitBytes, unitOf}
 use Rattle.rules.specs.Hosts.{Host, hostAt, hosts, hostsFrom, hostSlotAt, mostHosts, readers}
 use Rattle.rules.specs.Refusals.{isFilling, listRefuses}
@@ -37,7 +37,7 @@ namedBy t i = hostAt (readers t) i .named
 -- the segments begin at `base`, the first x rows name segments that are there, and none of them is segment k
 pub record Rows (t : List ℕ) (base x k : ℕ) : Type 0 where
   pub start : base ≡ segmentsAt (segments t)
-  pub above : 12288 ≤ base
+  pub above : unitAt 0 ≤ base
   pub few : x < 85
   pub own : base + 4096 * k + 4096 ≤ length t
   pub low : (i : ℕ) → i < x → 1 ≤ namedBy t i

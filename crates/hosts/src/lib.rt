@@ -4,19 +4,21 @@
 ghost use mathlib.Core.Path.{_≡_};
 ghost use mathlib.Core.Bool.{true};
 ghost use mathlib.Core.List.{_++_};
-ghost use Prim.Native.Nat.{_+_, _-_, _*_, _%_, _≤_, _<_};
+ghost use Prim.Native.Nat.{_+_, _%_, _≤_, _<_};
 ghost use lib.ListN.{length};
 ghost use Rattle.rules.specs.Bytes.{bytesOf, part, put, xor, Apart};
-ghost use Rattle.rules.specs.Hosts.{hostAt, readers, any, hasId, twin};
+ghost use Rattle.rules.specs.Hosts.{hostAt, readers, rowAt, any, hasId, twin};
 ghost use Rattle.rules.specs.Hosts as list;
-ghost use Rattle.rules.specs.Map.{segments, sound, unitAt};
+ghost use Rattle.rules.specs.Map.{segments, sound, readersAt, unitAt};
 ghost use Rattle.rules.specs.Refusals.{hides, listRefuses, misfit, rowFits};
 ghost use Rattle.rules.specs.Effects.{apply, insertStores, joinedSlot, pairStores};
 ghost use Rattle.hosts.specs.Joining.{Insertable, Rows, allPaired, rowPaired, rowsFrom, rowsIn};
 use rules::Model;
 use units::Decoded;
 
-// "85 rows at most"
+// "18 bytes a row .., 85 rows at most"
+const ROW_SIZE: usize = 18;
+
 const ROWS: usize = 85;
 
 // The segment number plus one that a row names.
@@ -24,7 +26,7 @@ fn named(readers: &[u8], i: usize) -> usize
     requires { ⌜ (length (now readers) ≡ 4096) × (i < 85) ⌝ }
     ensures { λ r. ⌜ r ≡ hostAt (now (readers .entry)) i .named ⌝ }
 {
-    octets::number16(readers, 18 * i + 16)
+    octets::number16(readers, ROW_SIZE * i + 16)
 }
 
 // The id of a row, where it stands.
@@ -32,7 +34,7 @@ fn id_of(readers: &[u8], i: usize) -> &[u8]
     requires { ⌜ (length (now readers) ≡ 4096) × (i < 85) ⌝ }
     ensures { λ r. ⌜ now r ≡ hostAt (now (readers .entry)) i .id ⌝ }
 {
-    let start = 18 * i;
+    let start = ROW_SIZE * i;
     let end = start + 16;
     &readers[start..end]
 }
@@ -137,7 +139,7 @@ fn readable(readers: &[u8], k: usize, offset: usize, n: usize) -> bool
 // Whether the list hides n bytes at an address in segment k, which has this model. Only model 4 asks the list. A segment
 // begins at a multiple of 4,096.
 pub fn hidden(model: Model, tag: &[u8], k: usize, at: usize, n: usize) -> bool
-    requires { ⌜ (12288 ≤ length (now tag)) × (k < 65536) × (at % 4096 + n ≤ 4096) ⌝ }
+    requires { ⌜ (unitAt 0 ≤ length (now tag)) × (k < 65536) × (at % 4096 + n ≤ 4096) ⌝ }
     ensures { λ r. ⌜ r ≡ hides model k (at % 4096) n (list.hosts (now (tag .entry))) ⌝ }
 {
     let Model::SharedKey(_) = model else {
@@ -148,7 +150,7 @@ pub fn hidden(model: Model, tag: &[u8], k: usize, at: usize, n: usize) -> bool
 
 // Whether the list names segment k.
 pub fn lists(tag: &[u8], k: usize) -> bool
-    requires { ⌜ (12288 ≤ length (now tag)) × (k < 65536) ⌝ }
+    requires { ⌜ (unitAt 0 ≤ length (now tag)) × (k < 65536) ⌝ }
     ensures { λ r. ⌜ r ≡ list.listed k (list.hosts (now (tag .entry))) ⌝ }
 {
     let readers = layout::readers(tag);
@@ -160,7 +162,7 @@ pub fn lists(tag: &[u8], k: usize) -> bool
 
 // Whether the segment that row i names is a well-formed model 4 at stage 1; a is the number of segments.
 fn row_fits(tag: &[u8], a: usize, i: usize) -> bool
-    requires { ⌜ (a ≡ segments (now tag)) × (unitAt a ≤ length (now tag)) × (12288 ≤ length (now tag)) × (i < 85) ⌝ }
+    requires { ⌜ (a ≡ segments (now tag)) × (unitAt a ≤ length (now tag)) × (unitAt 0 ≤ length (now tag)) × (i < 85) ⌝ }
     ensures { λ r. ⌜ r ≡ rowFits (now (tag .entry)) (hostAt (readers (now (tag .entry))) i) ⌝ }
 {
     let number = named(layout::readers(tag), i);
@@ -176,7 +178,7 @@ fn row_fits(tag: &[u8], a: usize, i: usize) -> bool
 
 // Whether one of the n rows names another segment than these.
 fn misfits(tag: &[u8], a: usize, n: usize) -> bool
-    requires { ⌜ (a ≡ segments (now tag)) × (unitAt a ≤ length (now tag)) × (12288 ≤ length (now tag)) × (n ≡ length (list.hosts (now tag))) ⌝ }
+    requires { ⌜ (a ≡ segments (now tag)) × (unitAt a ≤ length (now tag)) × (unitAt 0 ≤ length (now tag)) × (n ≡ length (list.hosts (now tag))) ⌝ }
     ensures { λ r. ⌜ r ≡ any (misfit (now (tag .entry))) (list.hosts (now (tag .entry))) ⌝ }
 {
     let mut found = false;
@@ -275,10 +277,10 @@ fn join_all(tag: &mut [u8], base: usize, x: usize, k: usize, id: [u8; 16])
 
 // Row x of the list: the id, and the segment number plus one.
 fn store_row(tag: &mut [u8], x: usize, k: usize, id: [u8; 16])
-    requires { ⌜ (12288 ≤ length (now tag)) × (x < 85) × (k < 65536) × (length id ≡ 16) ⌝ }
-    ensures { λ _. ⌜ now (tag .exit) ≡ put (8192 + 18 * x) (id ++ bytesOf 2 (k + 1)) (now (tag .entry)) ⌝ }
+    requires { ⌜ (unitAt 0 ≤ length (now tag)) × (x < 85) × (k < 65536) × (length id ≡ 16) ⌝ }
+    ensures { λ _. ⌜ now (tag .exit) ≡ put (readersAt + rowAt x) (id ++ bytesOf 2 (k + 1)) (now (tag .entry)) ⌝ }
 {
-    let at = layout::READERS + 18 * x;
+    let at = layout::READERS + ROW_SIZE * x;
     octets::store_at(tag, at, &id);
     octets::store16(tag, at + 16, k + 1);
 }

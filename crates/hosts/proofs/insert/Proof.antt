@@ -1,7 +1,7 @@
 -- `hosts::insert` meets its contract: pairs, row and unit, one after another. Assumes nothing.
 use mathlib.Core.Path.{ap, _∙_}
 use native.Mathlib.Omega.{arith}
-use Rattle.rules.specs.Map.{segmentsAt, unitAt}
+use Rattle.rules.specs.Map.{segmentsAt}
 use Rattle.hosts.proofs.ListLaws.{readers-length, rows-counted}
 use Rattle.hosts.proofs.InsertLaws.{insert-sizes, rows-of, inserted-all}
 use borrow.Author.Needs.{needs}
@@ -77,12 +77,10 @@ returns c =
     let row = unit .before .before .before .before in
     let pairs = row .before .before .before .before in
     let count = pairs .before .before .before .before .before in
-    let known = count .before .before .before in
     let x = rows-counted _ _ _ (count .before .readers .ensures) (count .count .ensures) in
     let l = row .store-row .kept .0 in
     let m = pairs .join-all .kept .0 in
-    let b = known .slice-known .given (unitAt (a .k)) .fits in
-    inserted-all (a .tag .now) (a .k) (a .id) (s .pre) _ _ _ _ b x (pairs .join-all .ensures) (row .store-row .ensures) (l ∙ m)
+    inserted-all (a .tag .now) (a .k) (a .id) (s .pre) _ _ _ _ x (pairs .join-all .ensures) (row .store-row .ensures) (l ∙ m)
     (unit .insert .ensures)
 
 pub insert-spec : {M : Type 1} → statement M

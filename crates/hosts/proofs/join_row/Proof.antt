@@ -3,6 +3,7 @@ use Prim.Native.Nat.{_+_, _*_, _≤_, _<_}
 use mathlib.Core.Path.{_≡_, refl, ap, _∙_}
 use native.Mathlib.Omega.{arith}
 use lib.ListN.{length}
+use Rattle.rules.specs.Map.{unitAt}
 use Rattle.rules.specs.Hosts.{hostAt, readers}
 use Rattle.hosts.specs.Joining.{namedBy}
 use Rattle.hosts.proofs.ListLaws.{readers-length, row-named, id-length, id-copied}
@@ -14,7 +15,7 @@ use Rattle.hosts.proofs.join_row.Tie as tie
 abbrev start : tie.After-named → tie.Start
 start c = c .before .before .before .before .before .before .before .before
 
-long : (s : tie.Start) → 12288 ≤ length (s .args .tag .now)
+long : (s : tie.Start) → unitAt 0 ≤ length (s .args .tag .now)
 long s = let p = s .pre .0 in omega (arith, p .above, p .own)
 
 few : (s : tie.Start) → s .args .i < 85

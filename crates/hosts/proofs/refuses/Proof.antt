@@ -3,6 +3,7 @@ use Prim.Native.Nat.{_≤_}
 use mathlib.Core.Path.{_≡_, sym}
 use native.Mathlib.Omega.{arith}
 use lib.ListN.{length}
+use Rattle.rules.specs.Map.{unitAt}
 use Rattle.rules.specs.Hosts.{hosts}
 use Rattle.rules.proofs.MapLaws.{sizes, sound-long}
 use Rattle.hosts.proofs.ListLaws.{readers-length, rows-counted}
@@ -12,7 +13,7 @@ use Rattle.hosts.proofs.refuses.Statement.{statement}
 use Rattle.hosts.proofs.refuses.Tie as tie
 
 -- the tag has room for the reader ID segment, and what is lent has its length
-room : (s : tie.Start) → 12288 ≤ length (s .args .tag .now)
+room : (s : tie.Start) → unitAt 0 ≤ length (s .args .tag .now)
 room s = omega (arith, sizes _ (s .pre .0) .smallest)
 
 long : (c : tie.After-readers) → length (c .readers .result .now) ≡ 4096

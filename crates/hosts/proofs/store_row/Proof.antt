@@ -1,7 +1,9 @@
 -- `hosts::store_row` meets its contract. Assumes nothing.
 use mathlib.Core.Path.{sym, ap, _∙_}
-use Prim.Native.Nat.{_+_, _*_}
+use Prim.Native.Nat.{_+_}
 use Rattle.rules.specs.Bytes.{bytesOf, put}
+use Rattle.rules.specs.Map.{readersAt}
+use Rattle.rules.specs.Hosts.{rowAt}
 use Rattle.rules.proofs.BytesLaws.{put-append}
 use borrow.Author.Needs.{needs}
 use Rattle.hosts.proofs.store_row.Statement.{statement}
@@ -37,9 +39,11 @@ returns c =
     let one = two .before .before .before .before in
     let s = one .before .before .before .before in
     let a = s .args in
-    two .store16 .ensures ∙ ap (put (8192 + 18 * a .x + 16) (bytesOf 2 (a .k + 1))) (one .store-at .ensures)
-    ∙ ap (λ n. put (8192 + 18 * a .x + n) (bytesOf 2 (a .k + 1)) (put (8192 + 18 * a .x) (a .t4) (a .tag .now))) (sym (s .pre .3))
-    ∙ sym (put-append (8192 + 18 * a .x) (a .t4) (bytesOf 2 (a .k + 1)) (a .tag .now))
+    let at = readersAt + rowAt (a .x) in
+    let named = bytesOf 2 (a .k + 1) in
+    two .store16 .ensures ∙ ap (put (at + 16) named) (one .store-at .ensures)
+    ∙ ap (λ n. put (at + n) named (put at (a .t4) (a .tag .now))) (sym (s .pre .3))
+    ∙ sym (put-append at (a .t4) named (a .tag .now))
 
 pub store-row-spec : {M : Type 1} → statement M
 store-row-spec =
