@@ -1,11 +1,10 @@
 -- Laws of the registers: the blocks that are enciphered, the checks by the tests of the code, and what a granted write
 -- leaves. Assumes nothing.
-use Prim.Native.Nat.{ℕ, _+_, _*_, _≤_, _<_}
+use Prim.Native.Nat.{ℕ, _≤_, _<_}
 use mathlib.Core.Path.{_≡_, refl, sym, ap, _∙_}
-use mathlib.Core.Logic.{_⊎_}
 use mathlib.Core.Bool.{Bool, true, false, not, _||_}
 use mathlib.Core.List.{List, [], _∷_, _++_}
-use mathlib.Core.Option.{none, some}
+use mathlib.Core.Option.{some}
 use lib.ListN.{length, set, replicate}
 use lib.Dec.{eqb, leb, ltb}
 use borrow.Author.Tests.{leb-true, leb-false, le-leb, lt-leb, ltb-false, le-ltb, lt-ltb, eq-eqb, ne-eqb, not-false}
@@ -21,13 +20,13 @@ use Rattle.rules.specs.declared.Answer.the-variants.{Done}
 use Rattle.rules.specs.Bytes.{part, put, number, same, xor}
 use Rattle.rules.specs.Answers.{refusalOf}
 use Rattle.rules.specs.Map.{counterBytes, flagAt, pinAt}
-use Rattle.rules.specs.State.{state, pinIndex, ownerIndex, guard, pin, owner, response, withRead, withWrite, withEdit, withName, withId, withPa}
-use Rattle.rules.specs.Refusals.{Checks, _when_else_, granted, lowest, registerChecks, blockChecks, responseChecks, nameChecks, commitChecks}
+use Rattle.rules.specs.State.{state, pinIndex, ownerIndex, pin, owner, response, withRead, withWrite, withEdit, withName, withId, withPa}
+use Rattle.rules.specs.Refusals.{_when_else_, granted, lowest, registerChecks, blockChecks, responseChecks, nameChecks, commitChecks}
 use Rattle.rules.specs.Effects.{apply, registerStores, registerSession}
-use Rattle.rules.proofs.Tests.{passes, or-false, gives, leaves, none-applies, joined-three, followed, lowest-under}
+use Rattle.rules.proofs.Tests.{passes, or-false, gives, leaves, joined-three, followed, lowest-under}
 use Rattle.octets.proofs.Laws.{part-lent, length-lent, put-whole, block-whole, set-put}
 use Rattle.xxtea.specs.Block.{E}
-use Rattle.registers.specs.Registers.{Taken, registerWritten, committed}
+use Rattle.registers.specs.Registers.{registerWritten, committed}
 
 -- ---- blocks
 
@@ -150,11 +149,6 @@ module _ (t : List ℕ) (v : Session) (r : Register) (bs : List ℕ) (i : ℕ) (
       → state after v ≡ registerWritten (state t v) r bs
   unfolding apply registerStores registerSession pinIndex ownerIndex
   takes-commit j after e f g = rw (e, g, index, f)
-
-  -- the PIN index of NAME and COMMIT is in range
-  pub pin-taken : Taken t v r bs → (r ≡ Name) ⊎ (r ≡ Commit) → i ≤ 255
-  unfolding pinIndex
-  pin-taken h e = rw index (h .pinned e)
 
 module _ (t : List ℕ) (v : Session) (r : Register) (bs new : List ℕ) (whole : length bs ≡ 16)
     (copied : new ≡ put 0 bs (replicate 16 0)) where
