@@ -12,7 +12,7 @@ use borrow.Rule.Slice.PartMut.{putMid, midOf}
 use Rattle.rules.specs.declared.Place.{Place}
 use Rattle.rules.specs.declared.Place.the-variants.{UnitOf, Segment}
 use Rattle.rules.specs.Bytes.{part, put}
-use Rattle.rules.specs.Map.{sound, segments, publics, placeOf, unitAt, segmentAt}
+use Rattle.rules.specs.Map.{largestTag, sound, segments, publics, placeOf, unitAt, segmentAt}
 use Rattle.rules.specs.Units.{unitBytes}
 use Rattle.rules.proofs.BytesLaws.{length-put}
 use Rattle.rules.proofs.MapLaws.{sound-long, segments-aligned, sizes}
@@ -24,7 +24,7 @@ use Rattle.octets.proofs.Laws.{part-lent, length-lent, put-back, put-inside}
 pub record UnitInside (t : List ℕ) (k : ℕ) : Type 0 where
   pub among : k < segments t
   pub inside : unitAt k + 32 ≤ length t
-  pub small : length t ≤ 1064960
+  pub small : length t ≤ largestTag
 
 pub unit-inside : (t : List ℕ) (k : ℕ) → sound t ≡ true → k < segments t → UnitInside t k
 unit-inside t k w h =

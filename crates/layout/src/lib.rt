@@ -4,7 +4,7 @@ ghost use mathlib.Core.Path.{_≡_};
 ghost use mathlib.Core.Bool.{true};
 ghost use Prim.Native.Nat.{ℕ, _+_, _%_, _^_, _≤_, _<_};
 ghost use lib.ListN.{length};
-ghost use Rattle.rules.specs.Map.{segments, publics, most, segmentsAt, sound, unitAt, rows, registerNo, find, placeOf};
+ghost use Rattle.rules.specs.Map.{segments, publics, most, smallestTag, segmentsAt, sound, unitAt, rows, registerNo, find, placeOf};
 ghost use Rattle.rules.specs.Units.{unitBytes};
 ghost use Rattle.rules.specs.Hosts.{readers};
 ghost use Rattle.layout.specs.Found.{found, foundIf};
@@ -32,6 +32,9 @@ pub const UNITS: usize = 12288;
 // The most segments of either kind.
 const MOST: usize = 128;
 
+// The length of the smallest tag that is sound.
+const SMALLEST: usize = 20480;
+
 // The place that holds a range of addresses, if one does.
 pub enum Found {
     In(Place),
@@ -56,7 +59,7 @@ pub fn publics(tag: &[u8]) -> usize
 
 // The 4,096 bytes of the reader ID segment.
 pub fn readers(tag: &[u8]) -> &[u8]
-    requires { ⌜ 12288 ≤ length (now tag) ⌝ }
+    requires { ⌜ unitAt 0 ≤ length (now tag) ⌝ }
     ensures { λ r. ⌜ now r ≡ readers (now (tag .entry)) ⌝ }
 {
     &tag[READERS..UNITS]
@@ -84,12 +87,12 @@ pub fn unit_of(tag: &[u8], k: usize) -> &[u8]
 pub fn segments_at(_a: usize) -> usize
     ensures { λ r. ⌜ r ≡ segmentsAt «_a» ⌝ }
 {
-    16384
+    UNITS + 4096
 }
 
 // The tests of soundness, on a tag that is not too short for them.
 fn tests_hold(tag: &[u8]) -> bool
-    requires { ⌜ 20480 ≤ length (now tag) ⌝ }
+    requires { ⌜ smallestTag ≤ length (now tag) ⌝ }
     ensures { λ r. ⌜ r ≡ sound (now (tag .entry)) ⌝ }
 {
     let a = segments(tag);
@@ -106,7 +109,7 @@ fn tests_hold(tag: &[u8]) -> bool
 pub fn sound(tag: &[u8]) -> bool
     ensures { λ r. ⌜ r ≡ sound (now (tag .entry)) ⌝ }
 {
-    if tag.len() < 20480 {
+    if tag.len() < SMALLEST {
         return false;
     }
     tests_hold(tag)
@@ -156,7 +159,7 @@ fn first_place(at: usize, n: usize) -> Found
 
 // The first three segments, which are the same on every tag.
 fn fixed_place(at: usize, n: usize) -> Found
-    requires { ⌜ (at < 12288) × (at % 4096 + n ≤ 4096) × (1 ≤ n) ⌝ }
+    requires { ⌜ (at < unitAt 0) × (at % 4096 + n ≤ 4096) × (1 ≤ n) ⌝ }
     ensures { λ r. ⌜ ((a p : ℕ) → a ≤ most → found r ≡ find (rows a p) at n) ⌝ }
 {
     if at < PINS {
@@ -171,7 +174,7 @@ fn fixed_place(at: usize, n: usize) -> Found
 
 // The units, and the spare place behind them.
 fn unit_place(a: usize, at: usize, n: usize) -> Found
-    requires { ⌜ (a ≤ most) × (12288 ≤ at) × (at + n ≤ segmentsAt a) × (1 ≤ n) ⌝ }
+    requires { ⌜ (a ≤ most) × (unitAt 0 ≤ at) × (at + n ≤ segmentsAt a) × (1 ≤ n) ⌝ }
     ensures { λ r. ⌜ ((p : ℕ) → found r ≡ find (rows a p) at n) ⌝ }
 {
     let k = (at - UNITS) / 32;

@@ -17,7 +17,7 @@ use Rattle.rules.specs.declared.Session.{Session}
 use Rattle.rules.specs.declared.Place.{Place}
 use Rattle.rules.specs.declared.Place.the-variants.{Header, Hidden, RegisterOf, Pins, Readers, UnitOf, Spare, Segment, Public}
 use Rattle.rules.specs.Bytes.{part, put, same}
-use Rattle.rules.specs.Map.{sound, segments, placeOf, segmentAt, unitAt}
+use Rattle.rules.specs.Map.{largestTag, sound, segments, placeOf, segmentAt, unitAt}
 use Rattle.rules.specs.Units.{unitBytes, nameOf}
 use Rattle.rules.specs.Hosts.{Host, hosts}
 use Rattle.rules.specs.State.{Cipher, State, state}
@@ -127,7 +127,7 @@ module _ (E : Cipher) (s : State) (a n room : ℕ) where
   -- ---- what is read lies in the tag, and goes to the start of the output; the state stays
 
   pub read-inside : sound (s .tag) ≡ true → refusal E s (read a n room) ≡ none
-      → (a + n ≤ length (s .tag)) × (length (s .tag) ≤ 1064960)
+      → (a + n ≤ length (s .tag)) × (length (s .tag) ≤ largestTag)
   unfolding refusal checks
   read-inside w e =
       let c1 = passes _ _ _ e in

@@ -5,13 +5,13 @@ use mathlib.Core.Bool.{Bool, true, false}
 use mathlib.Core.List.{List}
 use native.Mathlib.Omega.{arith}
 use lib.ListN.{length}
-use Rattle.rules.specs.Map.{sound}
+use Rattle.rules.specs.Map.{smallestTag, sound}
 use Rattle.rules.proofs.MapLaws.{sizes}
 use borrow.Author.Needs.{needs}
 use Rattle.layout.proofs.sound.Statement.{statement}
 use Rattle.layout.proofs.sound.Tie as tie
 
-short-unsound : (t : List ℕ) → length t < 20480 → false ≡ sound t
+short-unsound : (t : List ℕ) → length t < smallestTag → false ≡ sound t
 short-unsound t h = by (sound t) refl
   where
     by : (b : Bool) → sound t ≡ b → false ≡ b

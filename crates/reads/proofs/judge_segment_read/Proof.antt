@@ -66,7 +66,7 @@ returns-4 c =
 slice-aggregate-named : tie.Need-slice-aggregate-named
 slice-aggregate-named c =
     let s = unit-lent c .before .before in
-    omega (arith, simp length-map at (s .good .1 .0 .1 .1 .1 .1 .1 .0 .1 .0 .1))
+    omega (arith, simp length-map at (s .good .1 .0 .1 .1 .0 .1 .0 .1))
 
 named-requires : tie.Need-named-requires
 named-requires c κs =

@@ -21,7 +21,7 @@ slice-aggregate-store-at c = search needs
 store-at-requires : tie.Need-store-at-requires
 store-at-requires c κs =
     let start = c .before .before .before .before .before .before .before .before .before .before .before in
-    omega (arith, simp length-map at (start .good .1 .0 .1 .1 .1 .1 .1 .0 .1 .0 .1))
+    omega (arith, simp length-map at (start .good .1 .0 .1 .1 .0 .1 .0 .1))
 
 slice-aggregate-store-at-2 : tie.Need-slice-aggregate-store-at-2
 slice-aggregate-store-at-2 c = search needs
@@ -29,7 +29,7 @@ slice-aggregate-store-at-2 c = search needs
 store-at-requires-2 : tie.Need-store-at-requires-2
 store-at-requires-2 c κs =
     let start = c .before .before .before .before .before .before .before .before .before .before .before .before .before .before in
-    omega (arith, simp length-map at (start .good .1 .0 .1 .1 .1 .1 .1 .1 .0 .1 .0 .1))
+    omega (arith, simp length-map at (start .good .1 .0 .1 .1 .1 .0 .1 .0 .1))
 
 slice-aggregate-store-at-3 : tie.Need-slice-aggregate-store-at-3
 slice-aggregate-store-at-3 c = search needs
@@ -37,7 +37,7 @@ slice-aggregate-store-at-3 c = search needs
 store-at-requires-3 : tie.Need-store-at-requires-3
 store-at-requires-3 c κs =
     let start = c .before .before .before .before .before .before .before .before .before .before .before .before .before .before .before .before .before in
-    omega (arith, simp length-map at (start .good .1 .0 .1 .1 .1 .1 .1 .1 .1 .0 .1 .0 .1))
+    omega (arith, simp length-map at (start .good .1 .0 .1 .1 .1 .1 .0 .1 .0 .1))
 
 returns : tie.Need-returns
 returns c =
@@ -45,7 +45,7 @@ returns c =
     let one = two .before .before .before in
     let three = one .before .before .before in
     let start = three .before .before .before .before .before .before .before .before .before in
-    let good = start .good .1 .0 .1 .1 .1 .1 .1 in
+    let good = start .good .1 .0 .1 .1 in
     all-put (start .args .session) _ _ _ _ _ _ _ (three .before .before .before .before .before .store16-arg .given .0 .1)
     (simp length-map at (good .0 .1 .0 .1))
     (simp length-map at (good .1 .0 .1 .0 .1))
