@@ -69,6 +69,9 @@ unfolding pairOf
 stored-pair at n to b x y t u v e f p q =
     rw (sym e, sym f) (stored-both at n to (x ∷ []) (y ∷ []) t u v p q)
 
+pub stored-same : (at to : ℕ) (xs ys t u : List ℕ) → ys ≡ xs → Stored at xs t u to → Stored at ys t u to
+stored-same at to xs ys t u e s = rw e s
+
 pub mark-end : (left after : ℕ) → after ≡ 0 → markOf left after ≡ 10 ∷ []
 unfolding markOf
 mark-end left zero e = refl
