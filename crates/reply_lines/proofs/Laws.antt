@@ -2,7 +2,8 @@
 use Prim.Native.Nat.{ℕ, zero, suc, _+_, _-_, _*_, _/_, _%_, _≤_, _<_, min}
 use mathlib.Core.Path.{_≡_, refl, sym, ap, _∙_}
 use mathlib.Core.Bool.{Bool, true, false}
-use mathlib.Core.List.{List, [], _∷_, _++_}
+use mathlib.Core.Logic.{inl, inr}
+use mathlib.Core.List.{List, [], _∷_, _++_, append-assoc}
 use native.Mathlib.Omega.{arith}
 use native.Mathlib.Numerals.{add-one}
 use lib.ListN.{length, getD, drop, set, length-append, drop-of-length-le}
@@ -10,14 +11,17 @@ use lib.Seq.{drop-cons}
 use lib.Dec.{leb}
 use borrow.Author.Tests.{ne-eqb, leb-true, leb-false}
 use Rattle.rules.specs.Bytes.{part, put}
+use Rattle.rules.specs.Command.{done, gives, refused}
+use Rattle.rules.specs.Log.{readCode, encoded}
 use Rattle.rules.specs.Runs.{dataLength}
 use Rattle.rules.proofs.BytesLaws.{length-part, length-put, put-append, put-none}
+use Rattle.rules.proofs.RunLaws.{LogCount}
 use Rattle.octets.proofs.Laws.{set-put}
 use Rattle.reply_lines.specs.Lines.{digitOf, pairOf, leftBehind, markOf, textOf, linesIn, linesOf, Stored}
 
 -- ---- characters that are stored as far as the text has room
 
-pub put-outside : (at : ℕ) (xs t : List ℕ) → length t ≤ at → put at xs t ≡ t
+put-outside : (at : ℕ) (xs t : List ℕ) → length t ≤ at → put at xs t ≡ t
 unfolding put
 put-outside at xs [] h = refl
 put-outside zero xs (x ∷ t) h = absurd (omega arith)
@@ -128,7 +132,7 @@ print-end replies old text at left i h p =
     let s = p .leads text at (rw none (stored-none at text)) in
     (s .stored, omega (arith, s .on, length-part 0 (length old) (linesOf replies)))
 
-pub mark-short : (left after : ℕ) → length (markOf left after) ≤ 1
+mark-short : (left after : ℕ) → length (markOf left after) ≤ 1
 unfolding markOf
 mark-short left zero = omega arith
 mark-short zero (suc after) = omega arith
@@ -146,6 +150,73 @@ lines-short left (b ∷ bs) =
     let after = leftBehind left b in
     let rest = linesIn after bs in
     omega (arith, length-append (textOf left after b) rest, text-short left after b, lines-short after bs)
+
+-- ---- whole replies: behind them nothing is left of one
+
+unfoldable pub leftAfter : (left : ℕ) → List ℕ → ℕ
+leftAfter left [] = left
+leftAfter left (b ∷ bs) = leftAfter (leftBehind left b) bs
+
+abbrev pub WholeReplies : List ℕ → Type 0
+WholeReplies bs = leftAfter 0 bs ≡ 0
+
+pub none-whole : WholeReplies []
+unfolding leftAfter
+none-whole = refl
+
+left-append : (left : ℕ) (xs ys : List ℕ) → leftAfter left (xs ++ ys) ≡ leftAfter (leftAfter left xs) ys
+unfolding leftAfter
+left-append left [] ys = refl
+left-append left (x ∷ xs) ys = left-append (leftBehind left x) xs ys
+
+pub whole-append : (xs ys : List ℕ) → WholeReplies xs → WholeReplies ys → WholeReplies (xs ++ ys)
+whole-append xs ys e f = left-append 0 xs ys ∙ ap (λ n. leftAfter n ys) e ∙ f
+
+lines-in-append : (left : ℕ) (xs ys : List ℕ)
+    → linesIn left (xs ++ ys) ≡ linesIn left xs ++ linesIn (leftAfter left xs) ys
+unfolding linesIn leftAfter
+lines-in-append left [] ys = refl
+lines-in-append left (x ∷ xs) ys =
+    let after = leftBehind left x in
+    ap (λ l. textOf left after x ++ l) (lines-in-append after xs ys)
+    ∙ sym (append-assoc (textOf left after x) (linesIn after xs) _)
+
+pub lines-append : (xs ys : List ℕ) → WholeReplies xs → linesOf (xs ++ ys) ≡ linesOf xs ++ linesOf ys
+lines-append xs ys e = lines-in-append 0 xs ys ∙ ap (λ n. linesOf xs ++ linesIn n ys) e
+
+-- as many bytes as are left
+data-whole : (bs : List ℕ) → leftAfter (length bs) bs ≡ 0
+unfolding leftAfter leftBehind
+data-whole [] = refl
+data-whole (b ∷ bs) = data-whole bs
+
+-- the bytes behind the codes of the replies to a log
+record CodeLengths : Type 0 where
+  of-done : dataLength 0x50 ≡ 0
+  of-refused : dataLength 0x51 ≡ 1
+  of-gives : (n : ℕ) → LogCount n → dataLength (readCode n) ≡ n
+
+code-lengths : CodeLengths
+unfolding dataLength readCode
+code-lengths = record { of-done = refl; of-refused = refl; of-gives = of-gives }
+  where
+    of-gives : (n : ℕ) → LogCount n → dataLength (readCode n) ≡ n
+    of-gives n (inl e) = rw e refl
+    of-gives n (inr (inl e)) = rw e refl
+    of-gives n (inr (inr (inl e))) = rw e refl
+    of-gives n (inr (inr (inr e))) = rw e refl
+
+pub done-whole : WholeReplies (encoded done)
+unfolding encoded leftAfter leftBehind
+done-whole = code-lengths .of-done
+
+pub refused-whole : (n : ℕ) → WholeReplies (encoded (refused n))
+unfolding encoded leftAfter leftBehind
+refused-whole n = ap (λ k. leftAfter k (n ∷ [])) (code-lengths .of-refused)
+
+pub gives-whole : (bs : List ℕ) → LogCount (length bs) → WholeReplies (encoded (gives bs))
+unfolding encoded leftAfter leftBehind
+gives-whole bs h = ap (λ n. leftAfter n bs) (code-lengths .of-gives (length bs) h) ∙ data-whole bs
 
 -- ---- codes and what is left behind a byte
 
