@@ -1,10 +1,10 @@
 -- The laws of the text that is printed: a part's replies stand in its buffer as lines, and the texts of the parts, one
 -- behind another, are the text of the whole. Assumes nothing.
-use Prim.Native.Nat.{ℕ, zero, suc, _+_, _-_, _≤_, _<_}
+use Prim.Native.Nat.{ℕ, zero, suc, _-_, _≤_, _<_}
 use mathlib.Core.Path.{_≡_, refl, sym, ap, subst, _∙_}
 use mathlib.Core.Logic.{_≢_}
 use mathlib.Core.Bool.{Bool, true, false, cond}
-use mathlib.Core.List.{List, [], _∷_, _++_, append-nil}
+use mathlib.Core.List.{List, [], _++_, append-nil}
 use mathlib.Core.Option.{Option, none, some}
 use native.Mathlib.Omega.{arith}
 use lib.ListN.{length, take, drop, length-take, length-drop}
@@ -14,9 +14,9 @@ use Rattle.rules.specs.declared.Run.{Run}
 use Rattle.rules.specs.Bytes.{part, put}
 use Rattle.rules.specs.Answers.{codeOf}
 use Rattle.rules.specs.State.{State}
-use Rattle.rules.specs.Command.{Command, read, write, advance, insert, powerUp, done, gives, refused, refusal, grant, reply, replyBy, after}
+use Rattle.rules.specs.Command.{Command, read, write, advance, insert, powerUp, done, refused, refusal, grant, reply, replyBy, after}
 use Rattle.rules.specs.Log.{Ran, Parsed, end, unreadable, _taking_then_, parsed, encoded, roomFor, stopped, onward, carriedOut, runLog}
-use Rattle.rules.specs.Runs.{result, resultOf, runOver}
+use Rattle.rules.specs.Runs.{result, runOver}
 use Rattle.rules.proofs.BytesLaws.{length-part, length-put, part-put-same}
 use Rattle.rules.proofs.GrantedRead.{granted-read}
 use Rattle.rules.proofs.Runs.{runs-leave}
