@@ -80,7 +80,7 @@ fn keep_as(out: &[u8], image: &[u8])
 }
 
 // The image goes to OUT, the third argument. Where that fails, it is said why.
-pub fn keep_image(image: &[u8]) {
+pub(crate) fn keep_image(image: &[u8]) {
     let mut out = io::buffer();
     let Input::Whole(n) = argument(3, b"OUT", &mut out) else {
         return;

@@ -3,6 +3,7 @@
 // A Rattle program has no exit status: whoever wants one looks for a line that begins with `replay: ` on standard error.
 mod input;
 mod keeping;
+mod part;
 mod running;
 mod words;
 

@@ -4,6 +4,7 @@ ghost use mathlib.Core.Path.{_≡_};
 ghost use lib.ListN.{length};
 ghost use Rattle.rules.specs.State.{state, poweredUp};
 ghost use Rattle.replay.specs.Whole.{PartRun, WholeRun, isFull};
+use crate::part::run_as_text;
 use crate::words::cannot;
 use crate::words::say;
 use crate::words::say_number;
@@ -18,33 +19,29 @@ pub struct Replayed {
     pub printed: bool,
 }
 
-// Three characters for each byte of a buffer of replies.
 fn text_buffer() -> [u8; 12288]
     ensures { λ r. ⌜ 12288 ≡ length r ⌝ }
 {
     [0; 12288]
 }
 
-fn print_replies(replies: &[u8]) -> bool
-    requires { ⌜ length (now replies) ≤ 4096 ⌝ }
-{
-    let mut text = text_buffer();
-    let n = reply_lines::lines(replies, &mut text);
-    let printed = io::write_all(STDOUT_FILENO, &text[..n]);
+fn print(text: &[u8]) -> bool {
+    let printed = io::write_all(STDOUT_FILENO, text);
     if !printed {
         cannot(b"write", b"the replies");
     }
     printed
 }
 
-// As much of the log as a buffer has room for the replies of.
+// A part of the run, whose text is printed.
 fn run_part(image: &mut [u8], session: Session, log: &[u8]) -> Replayed
     ensures { λ r. ⌜ PartRun (state (now (image .entry)) session) (now (log .entry)) (now (image .exit)) (r .run) ⌝ }
 {
-    let mut replies = io::buffer();
-    let run = tag::run(image, session, log, &mut replies);
-    let n = run.written;
-    let printed = print_replies(&replies[..n]);
+    let mut text = text_buffer();
+    let part = run_as_text(image, session, log, &mut text);
+    let n = part.characters;
+    let run = part.run;
+    let printed = print(&text[..n]);
     Replayed { run, printed }
 }
 
@@ -58,7 +55,8 @@ fn is_full(stop: Stop) -> bool
     }
 }
 
-// From power-up to the end of the log, or to a 15. A buffer that is full is printed, and the run goes on.
+// From power-up to the end of the log, or to a 15. A buffer that is full is printed, and the run goes on. The sum of the
+// bytes written has a bound only where the log's length has one.
 pub fn run_log(image: &mut [u8], log: &[u8]) -> Replayed
     requires { ⌜ length (now log) ≤ 1048576 ⌝ }
     ensures { λ r. ⌜ WholeRun (state (now (image .entry)) poweredUp) (now (log .entry)) (now (image .exit)) r ⌝ }
@@ -88,7 +86,7 @@ pub fn run_log(image: &mut [u8], log: &[u8]) -> Replayed
 }
 
 // One line on what stopped the run.
-pub fn report(run: Run) {
+pub(crate) fn report(run: Run) {
     let stop = run.stop;
     match stop {
         Stop::End => say(b"the run stopped at the end of the log"),

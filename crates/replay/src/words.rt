@@ -1,16 +1,16 @@
 // What is said on standard error. An error's line begins with `replay: `.
 use libc::STDERR_FILENO;
 
-pub fn say(text: &[u8]) {
+pub(crate) fn say(text: &[u8]) {
     io::write_all(STDERR_FILENO, text);
 }
 
-pub fn say_number(n: usize) {
+pub(crate) fn say_number(n: usize) {
     io::print_decimal(STDERR_FILENO, n as u64);
 }
 
 // An error of the system's: what could not be done, with what, and why. The reason is that of the call before.
-pub fn cannot(doing: &[u8], what: &[u8]) {
+pub(crate) fn cannot(doing: &[u8], what: &[u8]) {
     say(b"replay: cannot ");
     say(doing);
     say(b" ");
@@ -18,7 +18,7 @@ pub fn cannot(doing: &[u8], what: &[u8]) {
 }
 
 // The same of a file that could not be read.
-pub fn unreadable(what: &[u8], path: &[u8]) {
+pub(crate) fn unreadable(what: &[u8], path: &[u8]) {
     say(b"replay: cannot read ");
     say(what);
     say(b" ");
@@ -34,14 +34,14 @@ fn say_unfit(what: &[u8], path: &[u8]) {
 }
 
 // What is wrong with a file that was read.
-pub fn wrong(what: &[u8], path: &[u8], fault: &[u8]) {
+pub(crate) fn wrong(what: &[u8], path: &[u8], fault: &[u8]) {
     say_unfit(what, path);
     say(fault);
     say(b"\n");
 }
 
 // It has this many bytes or more, where fewer are taken.
-pub fn too_long(what: &[u8], path: &[u8], size: usize) {
+pub(crate) fn too_long(what: &[u8], path: &[u8], size: usize) {
     say_unfit(what, path);
     say(b"it has ");
     say_number(size);

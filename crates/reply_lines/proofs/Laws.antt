@@ -1,44 +1,80 @@
 -- The laws that the functions of `reply_lines` cite. Assumes nothing.
-use Prim.Native.Nat.{ℕ, zero, suc, _+_, _-_, _*_, _≤_, _<_}
+use Prim.Native.Nat.{ℕ, zero, suc, _+_, _-_, _*_, _/_, _%_, _≤_, _<_, min}
 use mathlib.Core.Path.{_≡_, refl, sym, ap, _∙_}
-use mathlib.Core.List.{List, [], _∷_, _++_}
+use mathlib.Core.Bool.{Bool, true, false}
+use mathlib.Core.Logic.{inl, inr}
+use mathlib.Core.List.{List, [], _∷_, _++_, append-assoc}
 use native.Mathlib.Omega.{arith}
 use native.Mathlib.Numerals.{add-one}
 use lib.ListN.{length, getD, drop, set, length-append, drop-of-length-le}
 use lib.Seq.{drop-cons}
-use borrow.Author.Tests.{ne-eqb}
-use Rattle.rules.specs.Bytes.{put}
+use lib.Dec.{leb}
+use borrow.Author.Tests.{ne-eqb, leb-true, leb-false}
+use Rattle.rules.specs.Bytes.{part, put}
+use Rattle.rules.specs.Command.{done, gives, refused}
+use Rattle.rules.specs.Log.{readCode, encoded}
 use Rattle.rules.specs.Runs.{dataLength}
-use Rattle.rules.proofs.BytesLaws.{length-put}
+use Rattle.rules.proofs.BytesLaws.{length-part, length-put, put-append, put-none}
+use Rattle.rules.proofs.RunLaws.{LogCount}
 use Rattle.octets.proofs.Laws.{set-put}
-use Rattle.reply_lines.specs.Lines.{pairOf, leftBehind, markOf, textOf, linesIn, linesOf}
+use Rattle.reply_lines.specs.Lines.{digitOf, pairOf, leftBehind, markOf, textOf, linesIn, linesOf, Stored}
 
--- a store in two parts, one behind the other
-pub put-append : (at : ℕ) (xs ys t : List ℕ) → put at (xs ++ ys) t ≡ put (at + length xs) ys (put at xs t)
+-- ---- characters that are stored as far as the text has room
+
+put-outside : (at : ℕ) (xs t : List ℕ) → length t ≤ at → put at xs t ≡ t
 unfolding put
-put-append at xs ys [] = refl
-put-append zero [] ys (x ∷ t) = refl
-put-append zero (b ∷ xs) ys (x ∷ t) =
-    let e : 0 + length (b ∷ xs) ≡ suc (0 + length xs) = omega arith in
-    rw e (ap (λ r. b ∷ r) (put-append zero xs ys t))
-put-append (suc at) xs ys (x ∷ t) =
-    let e : suc at + length xs ≡ suc (at + length xs) = omega arith in
-    rw e (ap (λ r. x ∷ r) (put-append at xs ys t))
+put-outside at xs [] h = refl
+put-outside zero xs (x ∷ t) h = absurd (omega arith)
+put-outside (suc at) xs (x ∷ t) h = ap (λ r. x ∷ r) (put-outside at xs t (omega arith))
 
--- two bytes that are set one behind the other
-pub set-two : (at a b : ℕ) (t : List ℕ) → set (set t at a) (at + 1) b ≡ put at (a ∷ b ∷ []) t
-set-two at a b t =
-    set-put (at + 1) b (set t at a) ∙ ap (put (at + 1) (b ∷ [])) (set-put at a t)
-    ∙ sym (put-append at (a ∷ []) (b ∷ []) t)
+pub stored-none : (at : ℕ) (t : List ℕ) → Stored at [] t t at
+stored-none at t = record { stored = sym (put-none at t); on = omega arith }
 
--- a store of nothing
-pub put-none : (at : ℕ) (t : List ℕ) → put at [] t ≡ t
-unfolding put
-put-none at [] = refl
-put-none zero (x ∷ t) = refl
-put-none (suc at) (x ∷ t) = ap (λ r. x ∷ r) (put-none at t)
+pub stored-full : (at : ℕ) (xs t : List ℕ) → length t ≤ at → Stored at xs t t at
+stored-full at xs t h = record { stored = sym (put-outside at xs t h); on = omega arith }
 
--- ---- marks
+pub stored-one : (at v : ℕ) (t : List ℕ) → at < length t → Stored at (v ∷ []) t (set t at v) (at + 1)
+stored-one at v t h = record { stored = set-put at v t; on = omega arith }
+
+-- where the first do not fit, the second are not stored
+put-on : (at n : ℕ) (ys t : List ℕ) → put (at + n) ys t ≡ put (at + min n (length t - at)) ys t
+put-on at n ys t = by (leb (at + n) (length t)) refl
+  where
+    by : (b : Bool) → leb (at + n) (length t) ≡ b → put (at + n) ys t ≡ put (at + min n (length t - at)) ys t
+    by true e =
+        let h = leb-true (at + n) (length t) e in
+        let k : min n (length t - at) ≡ n = omega arith in
+        rw k
+    by false e =
+        let h = leb-false (at + n) (length t) e in
+        put-outside (at + n) ys t (omega arith) ∙ sym (put-outside _ ys t (omega arith))
+
+room-both : (at m n size : ℕ)
+    → at + min m (size - at) + min n (size - (at + min m (size - at))) ≡ at + min (m + n) (size - at)
+room-both at m n size = omega arith
+
+pub stored-both : (at n to : ℕ) (xs ys t u v : List ℕ) → Stored at xs t u n → Stored n ys u v to
+    → Stored at (xs ++ ys) t v to
+stored-both at n to xs ys t u v p q =
+    let same : length u ≡ length t = ap length (p .stored) ∙ length-put at xs t in
+    record {
+      stored =
+          q .stored
+          ∙ rw (p .on, p .stored)
+          (sym (put-append at xs ys t ∙ put-on at (length xs) ys (put at xs t) ∙ rw (length-put at xs t)));
+      on = q .on ∙ rw (same, p .on, length-append xs ys) (room-both at (length xs) (length ys) (length t));
+    }
+
+-- ---- pairs and marks
+
+pub stored-pair : (at n to b x y : ℕ) (t u v : List ℕ) → x ≡ digitOf (b / 16) → y ≡ digitOf (b % 16)
+    → Stored at (x ∷ []) t u n → Stored n (y ∷ []) u v to → Stored at (pairOf b) t v to
+unfolding pairOf
+stored-pair at n to b x y t u v e f p q =
+    rw (sym e, sym f) (stored-both at n to (x ∷ []) (y ∷ []) t u v p q)
+
+pub stored-same : (at to : ℕ) (xs ys t u : List ℕ) → ys ≡ xs → Stored at xs t u to → Stored at ys t u to
+stored-same at to xs ys t u e s = rw e s
 
 pub mark-end : (left after : ℕ) → after ≡ 0 → markOf left after ≡ 10 ∷ []
 unfolding markOf
@@ -57,31 +93,16 @@ mark-none left zero e h = absurd (h refl)
 mark-none zero (suc after) e h = absurd (e refl)
 mark-none (suc left) (suc after) e h = refl
 
-pub mark-short : (left after : ℕ) → length (markOf left after) ≤ 1
-unfolding markOf
-mark-short left zero = omega arith
-mark-short zero (suc after) = omega arith
-mark-short (suc left) (suc after) = omega arith
-
-pub text-length : (left after b : ℕ) → length (textOf left after b) ≡ 2 + length (markOf left after)
-unfolding textOf pairOf
-text-length left after b = omega (arith, length-append (pairOf b) (markOf left after))
-
-pub text-short : (left after b : ℕ) → length (textOf left after b) ≤ 3
-text-short left after b = omega (arith, text-length left after b, mark-short left after)
-
--- ---- the walk: the first i bytes of the replies stand in the text up to `at`, and what is left leads to the result
+-- ---- the walk: the first i bytes of the replies are stored up to `at`, and what is left leads to the result
 
 pub record Printed (replies old text : List ℕ) (at left i : ℕ) : Type 0 where
   pub inside : i ≤ length replies
-  pub room : at + 3 * (length replies - i) ≤ length text
   pub size : length text ≡ length old
-  pub leads : put at (linesIn left (drop i replies)) text ≡ put 0 (linesOf replies) old
-  pub count : at + length (linesIn left (drop i replies)) ≡ length (linesOf replies)
+  pub leads : (new : List ℕ) (to : ℕ) → Stored at (linesIn left (drop i replies)) text new to
+      → Stored 0 (linesOf replies) old new to
 
-pub print-first : (replies old : List ℕ) → 3 * length replies ≤ length old → Printed replies old old 0 0 0
-print-first replies old h =
-    record { inside = omega arith; room = omega arith; size = refl; leads = refl; count = omega arith }
+pub print-first : (replies old : List ℕ) → Printed replies old old 0 0 0
+print-first replies old = record { inside = omega arith; size = refl; leads = λ new to s. s }
 
 begun : (left b : ℕ) (bs : List ℕ)
     → linesIn left (b ∷ bs) ≡ textOf left (leftBehind left b) b ++ linesIn (leftBehind left b) bs
@@ -91,41 +112,35 @@ begun left b bs = refl
 -- one byte more
 pub print-next : (replies old text new : List ℕ) (at left i after to : ℕ) → i < length replies
     → after ≡ leftBehind left (getD replies i 0)
-    → new ≡ put at (textOf left after (getD replies i 0)) text
-    → to ≡ at + length (textOf left after (getD replies i 0))
+    → Stored at (textOf left after (getD replies i 0)) text new to
     → Printed replies old text at left i → Printed replies old new to after (i + 1)
-print-next replies old text new at left i after to h a n t p = next (getD replies i 0) n t one
+print-next replies old text new at left i after to h a s p =
+    record {
+      inside = omega arith;
+      size = ap length (s .stored) ∙ length-put at _ text ∙ p .size;
+      leads = λ last end q. p .leads last end (rw one (stored-both at to end _ _ text new last s q));
+    }
   where
     one : linesIn left (drop i replies) ≡ textOf left after (getD replies i 0) ++ linesIn after (drop (i + 1) replies)
     one = rw (add-one, a, drop-cons replies i 0 h) (begun left (getD replies i 0) (drop (suc i) replies))
 
-    next : (b : ℕ) → new ≡ put at (textOf left after b) text → to ≡ at + length (textOf left after b)
-        → linesIn left (drop i replies) ≡ textOf left after b ++ linesIn after (drop (i + 1) replies)
-        → Printed replies old new to after (i + 1)
-    next b n t one =
-        let here = textOf left after b in
-        let rest = linesIn after (drop (i + 1) replies) in
-        let long : length (linesIn left (drop i replies)) ≡ length here + length rest =
-        ap length one ∙ length-append here rest
-        in
-        let same : length new ≡ length text = ap length n ∙ length-put at here text in
-        record {
-          inside = omega arith;
-          room = omega (arith, p .room, text-short left after b);
-          size = same ∙ p .size;
-          leads =
-              rw (n, t) (sym (put-append at here rest text) ∙ ap (λ l. put at l text) (sym one) ∙ p .leads);
-          count = omega (arith, p .count);
-        }
-
 pub print-end : (replies old text : List ℕ) (at left i : ℕ) → length replies ≤ i → Printed replies old text at left i
-    → (text ≡ put 0 (linesOf replies) old) × (at ≡ length (linesOf replies))
+    → (text ≡ put 0 (linesOf replies) old) × (at ≡ length (part 0 (length old) (linesOf replies)))
 unfolding linesIn
 print-end replies old text at left i h p =
-    let none : linesIn left (drop i replies) ≡ [] = rw (drop-of-length-le replies {i = i} h) in (
-      sym (put-none at text) ∙ ap (λ l. put at l text) (sym none) ∙ p .leads,
-      omega (arith, ap length none, p .count),
-    )
+    let none : linesIn left (drop i replies) ≡ [] = rw (drop-of-length-le replies {i = i} h) in
+    let s = p .leads text at (rw none (stored-none at text)) in
+    (s .stored, omega (arith, s .on, length-part 0 (length old) (linesOf replies)))
+
+mark-short : (left after : ℕ) → length (markOf left after) ≤ 1
+unfolding markOf
+mark-short left zero = omega arith
+mark-short zero (suc after) = omega arith
+mark-short (suc left) (suc after) = omega arith
+
+text-short : (left after b : ℕ) → length (textOf left after b) ≤ 3
+unfolding textOf pairOf
+text-short left after b = omega (arith, length-append (pairOf b) (markOf left after), mark-short left after)
 
 -- three characters for a byte suffice
 pub lines-short : (left : ℕ) (bs : List ℕ) → length (linesIn left bs) ≤ 3 * length bs
@@ -135,6 +150,73 @@ lines-short left (b ∷ bs) =
     let after = leftBehind left b in
     let rest = linesIn after bs in
     omega (arith, length-append (textOf left after b) rest, text-short left after b, lines-short after bs)
+
+-- ---- whole replies: behind them nothing is left of one
+
+unfoldable pub leftAfter : (left : ℕ) → List ℕ → ℕ
+leftAfter left [] = left
+leftAfter left (b ∷ bs) = leftAfter (leftBehind left b) bs
+
+abbrev pub WholeReplies : List ℕ → Type 0
+WholeReplies bs = leftAfter 0 bs ≡ 0
+
+pub none-whole : WholeReplies []
+unfolding leftAfter
+none-whole = refl
+
+left-append : (left : ℕ) (xs ys : List ℕ) → leftAfter left (xs ++ ys) ≡ leftAfter (leftAfter left xs) ys
+unfolding leftAfter
+left-append left [] ys = refl
+left-append left (x ∷ xs) ys = left-append (leftBehind left x) xs ys
+
+pub whole-append : (xs ys : List ℕ) → WholeReplies xs → WholeReplies ys → WholeReplies (xs ++ ys)
+whole-append xs ys e f = left-append 0 xs ys ∙ ap (λ n. leftAfter n ys) e ∙ f
+
+lines-in-append : (left : ℕ) (xs ys : List ℕ)
+    → linesIn left (xs ++ ys) ≡ linesIn left xs ++ linesIn (leftAfter left xs) ys
+unfolding linesIn leftAfter
+lines-in-append left [] ys = refl
+lines-in-append left (x ∷ xs) ys =
+    let after = leftBehind left x in
+    ap (λ l. textOf left after x ++ l) (lines-in-append after xs ys)
+    ∙ sym (append-assoc (textOf left after x) (linesIn after xs) _)
+
+pub lines-append : (xs ys : List ℕ) → WholeReplies xs → linesOf (xs ++ ys) ≡ linesOf xs ++ linesOf ys
+lines-append xs ys e = lines-in-append 0 xs ys ∙ ap (λ n. linesOf xs ++ linesIn n ys) e
+
+-- as many bytes as are left
+data-whole : (bs : List ℕ) → leftAfter (length bs) bs ≡ 0
+unfolding leftAfter leftBehind
+data-whole [] = refl
+data-whole (b ∷ bs) = data-whole bs
+
+-- the bytes behind the codes of the replies to a log
+record CodeLengths : Type 0 where
+  of-done : dataLength 0x50 ≡ 0
+  of-refused : dataLength 0x51 ≡ 1
+  of-gives : (n : ℕ) → LogCount n → dataLength (readCode n) ≡ n
+
+code-lengths : CodeLengths
+unfolding dataLength readCode
+code-lengths = record { of-done = refl; of-refused = refl; of-gives = of-gives }
+  where
+    of-gives : (n : ℕ) → LogCount n → dataLength (readCode n) ≡ n
+    of-gives n (inl e) = rw e refl
+    of-gives n (inr (inl e)) = rw e refl
+    of-gives n (inr (inr (inl e))) = rw e refl
+    of-gives n (inr (inr (inr e))) = rw e refl
+
+pub done-whole : WholeReplies (encoded done)
+unfolding encoded leftAfter leftBehind
+done-whole = code-lengths .of-done
+
+pub refused-whole : (n : ℕ) → WholeReplies (encoded (refused n))
+unfolding encoded leftAfter leftBehind
+refused-whole n = ap (λ k. leftAfter k (n ∷ [])) (code-lengths .of-refused)
+
+pub gives-whole : (bs : List ℕ) → LogCount (length bs) → WholeReplies (encoded (gives bs))
+unfolding encoded leftAfter leftBehind
+gives-whole bs h = ap (λ n. leftAfter n bs) (code-lengths .of-gives (length bs) h) ∙ data-whole bs
 
 -- ---- codes and what is left behind a byte
 

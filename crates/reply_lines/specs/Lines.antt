@@ -1,9 +1,12 @@
 -- Replies as text: one reply a line in capital hexadecimal, its data or number parted from the code by a space, as
 -- `50`, `51 0C` and `42 0000000000000001`. Bytes and characters are numbers. Assumes nothing.
-use Prim.Native.Nat.{ℕ, zero, suc, _+_, _/_, _%_}
+use Prim.Native.Nat.{ℕ, zero, suc, _+_, _-_, _/_, _%_, min}
+use mathlib.Core.Path.{_≡_}
 use mathlib.Core.Bool.{cond}
 use mathlib.Core.List.{List, [], _∷_, _++_}
+use lib.ListN.{length}
 use lib.Dec.{ltb}
+use Rattle.rules.specs.Bytes.{put}
 use Rattle.rules.specs.Runs.{dataLength}
 
 -- the character of a digit below 16: `0` is 48 and `A` is 65
@@ -34,3 +37,8 @@ linesIn left (b ∷ bs) = textOf left (leftBehind left b) b ++ linesIn (leftBehi
 
 abbrev pub linesOf : List ℕ → List ℕ
 linesOf replies = linesIn 0 replies
+
+-- of the characters, as many as the text `old` has room for are stored at `at`, which makes it `new`; it goes on at `to`
+pub record Stored (at : ℕ) (characters old new : List ℕ) (to : ℕ) : Type 0 where
+  pub stored : new ≡ put at characters old
+  pub on : to ≡ at + min (length characters) (length old - at)

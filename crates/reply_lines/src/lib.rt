@@ -1,10 +1,11 @@
 // The replies of a run as text, one a line in capital hexadecimal. The definitions are in specs/Lines.antt.
 ghost use mathlib.Core.Path.{_≡_};
-ghost use Prim.Native.Nat.{_+_, _*_, _≤_, _<_};
+ghost use Prim.Native.Nat.{_<_};
+ghost use mathlib.Core.List.{[], _∷_};
 ghost use lib.ListN.{length};
-ghost use Rattle.rules.specs.Bytes.{put};
+ghost use Rattle.rules.specs.Bytes.{part, put};
 ghost use Rattle.rules.specs.Runs.{dataLength};
-ghost use Rattle.reply_lines.specs.Lines.{digitOf, leftBehind, linesOf, markOf, pairOf, textOf};
+ghost use Rattle.reply_lines.specs.Lines.{Stored, digitOf, leftBehind, linesOf, markOf, pairOf, textOf};
 
 fn digit(n: u8) -> u8
     requires { ⌜ n < 16 ⌝ }
@@ -38,46 +39,49 @@ fn left_behind(left: usize, byte: u8) -> usize
     }
 }
 
-fn put_pair(text: &mut [u8], at: usize, byte: u8)
-    requires { ⌜ at + 2 ≤ length (now text) ⌝ }
-    ensures { λ _. ⌜ now (text .exit) ≡ put at (pairOf byte) (now (text .entry)) ⌝ }
+// Where the text is full, nothing is stored.
+fn put_character(text: &mut [u8], at: usize, character: u8) -> usize
+    ensures { λ r. ⌜ Stored at (character ∷ []) (now (text .entry)) (now (text .exit)) r ⌝ }
 {
-    text[at] = digit(byte / 16);
-    text[at + 1] = digit(byte % 16);
+    if text.len() <= at {
+        return at;
+    }
+    text[at] = character;
+    at + 1
 }
 
-// A line's end, a space or nothing; where the text goes on is handed back.
+fn put_pair(text: &mut [u8], at: usize, byte: u8) -> usize
+    ensures { λ r. ⌜ Stored at (pairOf byte) (now (text .entry)) (now (text .exit)) r ⌝ }
+{
+    let next = put_character(text, at, digit(byte / 16));
+    put_character(text, next, digit(byte % 16))
+}
+
+// A line's end, a space or nothing.
 fn put_mark(text: &mut [u8], at: usize, left: usize, after: usize) -> usize
-    requires { ⌜ at + 1 ≤ length (now text) ⌝ }
-    ensures { λ _. ⌜ now (text .exit) ≡ put at (markOf left after) (now (text .entry)) ⌝ }
-    ensures { λ r. ⌜ r ≡ at + length (markOf left after) ⌝ }
+    ensures { λ r. ⌜ Stored at (markOf left after) (now (text .entry)) (now (text .exit)) r ⌝ }
 {
     if after == 0 {
-        text[at] = b'\n';
-        return at + 1;
+        return put_character(text, at, b'\n');
     }
     if left == 0 {
-        text[at] = b' ';
-        return at + 1;
+        return put_character(text, at, b' ');
     }
     at
 }
 
 fn put_byte(text: &mut [u8], at: usize, left: usize, after: usize, byte: u8) -> usize
-    requires { ⌜ at + 3 ≤ length (now text) ⌝ }
-    ensures { λ _. ⌜ now (text .exit) ≡ put at (textOf left after byte) (now (text .entry)) ⌝ }
-    ensures { λ r. ⌜ (r ≡ at + length (textOf left after byte)) × (r ≤ at + 3) ⌝ }
+    ensures { λ r. ⌜ Stored at (textOf left after byte) (now (text .entry)) (now (text .exit)) r ⌝ }
 {
-    put_pair(text, at, byte);
-    put_mark(text, at + 2, left, after)
+    let next = put_pair(text, at, byte);
+    put_mark(text, next, left, after)
 }
 
-// The lines of the replies, at the start of the text; their length is handed back. A byte of a reply takes at most
-// three characters. The rest of the text stays as it is.
+// The lines of the replies, at the start of the text and as far as it has room; the number of characters is handed
+// back. A text of three characters for each byte of the replies has room for all. Its rest stays as it is.
 pub fn lines(replies: &[u8], text: &mut [u8]) -> usize
-    requires { ⌜ 3 * length (now replies) ≤ length (now text) ⌝ }
     ensures { λ _. ⌜ now (text .exit) ≡ put 0 (linesOf (now (replies .entry))) (now (text .entry)) ⌝ }
-    ensures { λ r. ⌜ r ≡ length (linesOf (now (replies .entry))) ⌝ }
+    ensures { λ r. ⌜ r ≡ length (part 0 (length (now (text .entry))) (linesOf (now (replies .entry)))) ⌝ }
 {
     let mut at = 0;
     let mut left = 0;

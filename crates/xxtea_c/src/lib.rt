@@ -3,11 +3,11 @@ ghost use mathlib.Core.Path.{_≡_};
 ghost use mathlib.Core.List.{[], _∷_};
 ghost use lib.ListN.{length};
 ghost use Rattle.xxtea.specs.Xxtea.{enciphered, deciphered, refusal, refused};
-ghost use Rattle.xxtea_c.specs.Number.{number};
+ghost use Rattle.rules.specs.Answers.{codeOf};
 use xxtea::Answer;
 
 fn number_of(a: Answer) -> u8
-    ensures { λ r. ⌜ r ≡ number (refusal a) ⌝ }
+    ensures { λ r. ⌜ r ≡ codeOf (refusal a) ⌝ }
 {
     match a {
         Answer::Done => 0,
@@ -17,14 +17,14 @@ fn number_of(a: Answer) -> u8
 
 #[no_mangle]
 pub extern "C" fn xxtea_c_encipher(words: &mut [u32], k0: u32, k1: u32, k2: u32, k3: u32) -> u8
-    ensures { λ r. ⌜ (r ≡ number (refused (length (now (words .entry))))) × (now (words .exit) ≡ enciphered (k0 ∷ k1 ∷ k2 ∷ k3 ∷ []) (now (words .entry))) ⌝ }
+    ensures { λ r. ⌜ (r ≡ codeOf (refused (length (now (words .entry))))) × (now (words .exit) ≡ enciphered (k0 ∷ k1 ∷ k2 ∷ k3 ∷ []) (now (words .entry))) ⌝ }
 {
     number_of(xxtea::encipher(words, [k0, k1, k2, k3]))
 }
 
 #[no_mangle]
 pub extern "C" fn xxtea_c_decipher(words: &mut [u32], k0: u32, k1: u32, k2: u32, k3: u32) -> u8
-    ensures { λ r. ⌜ (r ≡ number (refused (length (now (words .entry))))) × (now (words .exit) ≡ deciphered (k0 ∷ k1 ∷ k2 ∷ k3 ∷ []) (now (words .entry))) ⌝ }
+    ensures { λ r. ⌜ (r ≡ codeOf (refused (length (now (words .entry))))) × (now (words .exit) ≡ deciphered (k0 ∷ k1 ∷ k2 ∷ k3 ∷ []) (now (words .entry))) ⌝ }
 {
     number_of(xxtea::decipher(words, [k0, k1, k2, k3]))
 }

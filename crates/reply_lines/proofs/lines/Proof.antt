@@ -15,7 +15,7 @@ abbrev μ-loop : tie.MeasureT-loop
 μ-loop replies text₀ at₀ left₀ i₀ text at left i = length replies - i
 
 loop-holds : tie.Need-loop-holds Inv-loop μ-loop
-loop-holds c = print-first _ _ (c .before .before .pre)
+loop-holds c = print-first _ _
 
 shared-slice-read-byte : tie.Need-shared-slice-read-byte Inv-loop μ-loop
 shared-slice-read-byte c = search needs
@@ -24,7 +24,7 @@ left-behind-requires : tie.Need-left-behind-requires Inv-loop μ-loop
 left-behind-requires c κs = search needs
 
 put-byte-requires : tie.Need-put-byte-requires Inv-loop μ-loop
-put-byte-requires c κs = omega arith
+put-byte-requires c κs = search needs
 
 add-i : tie.Need-add-i Inv-loop μ-loop
 add-i c = omega arith
@@ -39,8 +39,7 @@ loop-again c =
     let at = turn .before .before in
     print-next _ _ (at .loop .text) _ (at .loop .at) (at .loop .left) (at .loop .i) _ _ (turn .before .loop-test .taken)
     (put .before .before .left-behind .ensures)
-    (put .put-byte .ensures .0)
-    (put .put-byte .ensures .1 .0)
+    (put .put-byte .ensures)
     (at .loop .inv)
 
 same-length : tie.Need-same-length Inv-loop μ-loop

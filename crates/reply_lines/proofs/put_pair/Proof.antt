@@ -1,9 +1,5 @@
--- `reply_lines::put_pair` meets its contract. Assumes nothing.
-use mathlib.Core.Path.{_∙_}
-use Rattle.reply_lines.specs.Lines.{pairOf}
-use Rattle.reply_lines.proofs.Laws.{set-two}
-use native.Mathlib.Omega.{arith}
-use lib.ListN.{length-set}
+-- `reply_lines::put_pair` meets its contract: a digit, and the other behind it. Assumes nothing.
+use Rattle.reply_lines.proofs.Laws.{stored-pair}
 use borrow.Author.Needs.{needs}
 use Rattle.reply_lines.proofs.put_pair.Statement.{statement}
 use Rattle.reply_lines.proofs.put_pair.Tie as tie
@@ -11,35 +7,33 @@ use Rattle.reply_lines.proofs.put_pair.Tie as tie
 digit-requires : tie.Need-digit-requires
 digit-requires c κs = search needs
 
-slice-write-text : tie.Need-slice-write-text
-slice-write-text c = search needs
+put-character-requires : tie.Need-put-character-requires
+put-character-requires c κs = search needs
 
 digit-requires-2 : tie.Need-digit-requires-2
 digit-requires-2 c κs = search needs
 
-add-text : tie.Need-add-text
-add-text c = search needs
-
-slice-write-text-2 : tie.Need-slice-write-text-2
-slice-write-text-2 c = simp length-set (omega arith)
+put-character-requires-2 : tie.Need-put-character-requires-2
+put-character-requires-2 c κs = search needs
 
 same-length : tie.Need-same-length
 same-length c = search needs
 
 returns : tie.Need-returns
-unfolding pairOf
 returns c =
-    let a = c .before .before .before .args in
-    set-two (a .at) _ _ (a .text .now) ∙ rw (c .before .digit .ensures, c .digit2 .ensures)
+    let second = c .before .before in
+    let first = second .before .before .before .before .before in
+    stored-pair _ _ _ _ _ _ _ _ _ (first .before .digit .ensures) (second .before .digit2 .ensures)
+    (first .put-character .ensures)
+    (second .put-character2 .ensures)
 
 pub put-pair-spec : {M : Type 1} → statement M
 put-pair-spec =
     tie.close
     (tie.spec
     digit-requires
-    slice-write-text
+    put-character-requires
     digit-requires-2
-    add-text
-    slice-write-text-2
+    put-character-requires-2
     same-length
     returns)

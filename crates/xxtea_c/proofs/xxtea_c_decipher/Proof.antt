@@ -1,6 +1,6 @@
 -- `xxtea_c::xxtea_c_decipher` meets its contract, which is `xxtea::decipher`'s with the answer as a number. Assumes nothing.
 use mathlib.Core.Path.{ap, _∙_}
-use Rattle.xxtea_c.specs.Number.{number}
+use Rattle.rules.specs.Answers.{codeOf}
 use borrow.Author.Needs.{needs}
 use Rattle.xxtea_c.proofs.xxtea_c_decipher.Statement.{statement}
 use Rattle.xxtea_c.proofs.xxtea_c_decipher.Tie as tie
@@ -17,7 +17,7 @@ same-length c = search needs
 returns : tie.Need-returns
 returns c =
     let done = c .before .before .before .decipher .ensures in
-    (c .number-of .ensures ∙ ap number (done .0), done .1)
+    (c .number-of .ensures ∙ ap codeOf (done .0), done .1)
 
 pub xxtea-c-decipher-spec : {M : Type 1} → statement M
 xxtea-c-decipher-spec =
