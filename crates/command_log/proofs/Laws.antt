@@ -1,18 +1,21 @@
 -- The laws that the functions of `command_log` cite: the kind of a byte, whole and short bodies, and the code of a count.
 -- Assumes nothing.
 use Prim.Native.Nat.{ℕ, zero, suc, _+_, _-_, _≤_, _<_}
-use mathlib.Core.Path.{_≡_, refl, ap, _∙_}
+use mathlib.Core.Path.{_≡_, refl, sym, ap, _∙_}
 use mathlib.Core.Logic.{_≢_}
 use mathlib.Core.List.{List, [], _∷_}
 use mathlib.Core.Option.{Option, none, some}
 use native.Mathlib.Omega.{arith}
 use lib.ListN.{length, drop, length-drop}
+use lib.Seq.{drop-drop}
 use borrow.Author.Tests.{ne-eqb, le-leb, lt-leb}
-use Rattle.rules.specs.Bytes.{byte}
-use Rattle.rules.specs.Log.{Kind, reads, writes, countOf, kinds, kindIn, bodyLength, wholeOf, first, readCode}
+use Rattle.rules.specs.Bytes.{byte, number, part}
+use Rattle.rules.specs.Command.{read, write, advance, insert}
+use Rattle.rules.specs.Log.{Kind, reads, writes, countOf, kinds, kindIn, bodyLength, commandOf, wholeOf, first, readCode}
+use Rattle.rules.proofs.RunLaws.{of-log, some-bytes}
 use Rattle.command_log.specs.declared.Next.{Next}
-use Rattle.command_log.specs.declared.Next.the-variants.{Unreadable}
-use Rattle.command_log.specs.Next.{kindOf, lengthOf, commandBy, ComesNext}
+use Rattle.command_log.specs.declared.Next.the-variants as next
+use Rattle.command_log.specs.Next.{kindOf, lengthOf, commandBy, commandAt, ComesNext}
 
 -- a byte that is none of these kinds
 abbrev pub NoneOf : List (ℕ × Kind) → ℕ → Type 0
@@ -58,7 +61,7 @@ module _ (log : List ℕ) (at : ℕ) (x : Next) (there : at < length log) (its-k
         whole = omega arith;
       }
 
-  pub comes-short : length log - at < lengthOf (kindOf x) → ComesNext log at Unreadable
+  pub comes-short : length log - at < lengthOf (kindOf x) → ComesNext log at next.Unreadable
   unfolding first
   comes-short h =
       record {
@@ -84,3 +87,30 @@ code-of (suc (suc (suc (suc (suc d))))) h =
       ne-eqb (suc (suc (suc (suc (suc d))))) 4 (omega arith),
     ) in
     absurd (omega arith)
+
+-- ---- the commands, by what stands in the log behind the kind
+
+module _ (log : List ℕ) (at : ℕ) where
+  pub read-at : (d a : ℕ) → a ≡ number (part (at + 1) 4 log)
+      → commandAt log at (next.Read d) ≡ some (read a (countOf d) (countOf d), 4)
+  unfolding bodyLength commandOf part
+  read-at d a e = rw e
+
+  pub write-at : (d a : ℕ) → a ≡ number (part (at + 1) 4 log)
+      → commandAt log at (next.Write d) ≡ some (write a (part (at + 5) (countOf d) log), 4 + countOf d)
+  unfolding bodyLength commandOf part
+  write-at d a e = let f : at + 5 ≡ at + 1 + 4 = omega arith in rw (e, f, ← drop-drop 4 (at + 1) log)
+
+  pub advance-at : (k : ℕ) → k ≡ number (part (at + 1) 2 log) → commandAt log at next.Advance ≡ some (advance k, 2)
+  unfolding bodyLength commandOf part
+  advance-at k e = rw e
+
+  pub insert-at : (k : ℕ) → k ≡ number (part (at + 1) 2 log)
+      → commandAt log at next.Insert ≡ some (insert k (part (at + 3) 16 log), 18)
+  unfolding bodyLength commandOf part
+  insert-at k e = let f : at + 3 ≡ at + 1 + 2 = omega arith in rw (e, f, ← drop-drop 2 (at + 1) log)
+
+  -- a read has some bytes
+  pub read-counted : (d : ℕ) → ComesNext log at (next.Read d) → 1 ≤ countOf d
+  unfolding commandOf
+  read-counted d n = some-bytes (countOf d) (of-log (byte at log) (drop (at + 1) log) _ _ (sym (n .command)))

@@ -17,7 +17,6 @@ pub mod Locked
 pub mod Slots
 pub mod Counting
 pub mod Refused
-pub mod Unsound
 pub mod Repeats
 pub mod Segments
 pub mod Copies
@@ -28,6 +27,7 @@ pub mod FourCommands
 pub mod Examples
 pub mod Borders
 pub mod Moves
+pub mod Unsound
 pub mod Calls
 pub mod RunLaws
 pub mod Runs

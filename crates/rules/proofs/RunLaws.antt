@@ -100,11 +100,11 @@ each-of zero (b ∷ body) = by (first b body) refl (λ n. each-of n body)
 
 -- ---- a reply fits the room that its command asks for
 
-abbrev counted : (n : ℕ) → LogCount n → 1 ≤ n
-counted n (inl e) = omega arith
-counted n (inr (inl e)) = omega arith
-counted n (inr (inr (inl e))) = omega arith
-counted n (inr (inr (inr e))) = omega arith
+pub some-bytes : (n : ℕ) → LogCount n → 1 ≤ n
+some-bytes n (inl e) = omega arith
+some-bytes n (inr (inl e)) = omega arith
+some-bytes n (inr (inr (inl e))) = omega arith
+some-bytes n (inr (inr (inr e))) = omega arith
 
 -- where a grant is a plain 50
 done-fits : (o : Option ℕ) (s : State) (c : Command) → grant s c ≡ done → length (encoded (replyBy o s c)) ≤ 2
@@ -118,7 +118,7 @@ reply-fits E s (read a n room) h = by (refusal E s (read a n room))
   where
     by : (o : Option ℕ) → length (encoded (replyBy o s (read a n room))) ≤ 1 + n
     by none = let l = length-part a n (s .tag) in omega arith
-    by (some m) = let k = counted n h in omega arith
+    by (some m) = let k = some-bytes n h in omega arith
 reply-fits E s (write a bs) h = done-fits (refusal E s (write a bs)) s (write a bs) refl
 reply-fits E s (advance k) h = done-fits (refusal E s (advance k)) s (advance k) refl
 reply-fits E s (insert k id) h = done-fits (refusal E s (insert k id)) s (insert k id) refl
@@ -338,7 +338,7 @@ runs-continue E s =
 
 -- ---- the replies of a run, read back
 
-abbrev Readable : Reply → Type 0
+abbrev pub Readable : Reply → Type 0
 Readable done = Unit {0}
 Readable (gives bs) = LogCount (length bs)
 Readable (refused n) = Unit {0}
@@ -348,7 +348,7 @@ pub record CodeBack (n : ℕ) : Type 0 where
   pub not-done : eqb (readCode n) 0x50 ≡ false
   pub not-refused : eqb (readCode n) 0x51 ≡ false
 
-code-back : (n : ℕ) → LogCount n → CodeBack n
+pub code-back : (n : ℕ) → LogCount n → CodeBack n
 unfolding dataLength readCode countOf
 code-back n (inl e) = rw e (record { count = refl; not-done = refl; not-refused = refl })
 code-back n (inr (inl e)) = rw e (record { count = refl; not-done = refl; not-refused = refl })
@@ -373,7 +373,7 @@ unfolding replyBy
 done-readable none s c e = rw e tt
 done-readable (some m) s c e = tt
 
-reply-readable : (E : Cipher) (s : State) (c : Command) → OfLog c → Readable (reply E s c)
+pub reply-readable : (E : Cipher) (s : State) (c : Command) → OfLog c → Readable (reply E s c)
 unfolding reply replyBy grant
 reply-readable E s (read a n room) h = by (refusal E s (read a n room)) refl
   where

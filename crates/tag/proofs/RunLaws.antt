@@ -1,7 +1,7 @@
 -- The laws of `run`: its loop has a part of the run behind it, and what is left leads to the result. Assumes nothing.
 use Prim.Native.Nat.{ℕ, _+_, _-_, _≤_, _<_}
 use mathlib.Core.Path.{_≡_, refl, sym, ap, subst, _∙_}
-use mathlib.Core.Bool.{Bool, true, false}
+use mathlib.Core.Bool.{Bool}
 use mathlib.Core.List.{List, [], _∷_}
 use mathlib.Core.Option.{Option, none, some}
 use native.Mathlib.Omega.{arith}
@@ -20,39 +20,21 @@ use Rattle.rules.specs.Bytes.{byte, put}
 use Rattle.rules.specs.Map.{sound}
 use Rattle.rules.specs.Answers.{stopNumber}
 use Rattle.rules.specs.State.{State, state}
-use Rattle.rules.specs.Command.{Command, read, write, advance, insert, powerUp, refused, reply, after}
+use Rattle.rules.specs.Command.{Command, read, refused, reply, after}
 use Rattle.rules.specs.Log.{Ran, first, encoded, roomFor, stopped, onward, runLog}
 use Rattle.rules.specs.Runs.{returned, Result, result, resultOf, runOver}
 use Rattle.rules.proofs.BytesLaws.{length-put, put-append, put-none}
-use Rattle.rules.proofs.Lawful.{sound-stays}
-use Rattle.rules.proofs.Moves.{power-up-clears}
 use Rattle.rules.proofs.LogLaws.{log-is-its-commands}
 use Rattle.rules.proofs.RunLaws.{of-log, reply-fits}
-use Rattle.rules.proofs.Unsound.{unsound}
+use Rattle.rules.proofs.Unsound.{sound-same}
 use Rattle.xxtea.specs.Block.{E}
 use Rattle.command_log.proofs.Next as the-next
 use Rattle.command_log.specs.declared.Next.{Next}
 use Rattle.command_log.specs.declared.Next.the-variants as next
-use Rattle.command_log.specs.Next.{ComesNext, commandAt, lengthOf, roomOf}
+use Rattle.command_log.specs.Next.{ComesNext, kindOf, commandAt, lengthOf, roomAsked}
 use Rattle.tag.specs.declared.Replied.{Replied}
 use Rattle.tag.specs.Replies.{Replies, replyFor, afterFor}
 use Rattle.tag.proofs.Laws.{put-part-back}
-
--- ---- soundness stays as it was tested
-
-unsound-stays : (s : State) (c : Command) → sound (s .tag) ≡ false → after E s c .tag ≡ s .tag
-unsound-stays s (read a n room) e = sym (ap (λ x. x .tag) (unsound E s (read a n room) tt e .left))
-unsound-stays s (write a bs) e = sym (ap (λ x. x .tag) (unsound E s (write a bs) tt e .left))
-unsound-stays s (advance k) e = sym (ap (λ x. x .tag) (unsound E s (advance k) tt e .left))
-unsound-stays s (insert k id) e = sym (ap (λ x. x .tag) (unsound E s (insert k id) tt e .left))
-unsound-stays s powerUp e = power-up-clears E s .same-tag
-
-sound-same : (s : State) (c : Command) → sound (s .tag) ≡ sound (after E s c .tag)
-sound-same s c = by (sound (s .tag)) refl
-  where
-    by : (b : Bool) → sound (s .tag) ≡ b → sound (s .tag) ≡ sound (after E s c .tag)
-    by true e = e ∙ sym (sound-stays E s c e .stays-sound)
-    by false e = sym (ap sound (unsound-stays s c e))
 
 -- ---- the result of a run that has read i and written j bytes, goes on as x, and has left the output `out` so far
 
@@ -85,19 +67,6 @@ from-stopped i j q bs s out = rw add-zero
 
 -- ---- what comes next, as the rules have it
 
-abbrev roomAsked : Option (Command × ℕ) → ℕ
-roomAsked none = 2
-roomAsked (some x) = roomFor (x .0)
-
-room-asked : (log : List ℕ) (at : ℕ) (x : Next) → roomAsked (commandAt log at x) ≡ roomOf x
-unfolding roomFor
-room-asked log at next.PowerUp = refl
-room-asked log at (next.Read a n) = refl
-room-asked log at (next.Write a n) = refl
-room-asked log at (next.Advance k) = refl
-room-asked log at (next.Insert k) = refl
-room-asked log at next.Unreadable = refl
-
 -- a reply fits the room that was asked for
 reply-asked : (s : State) (b : ℕ) (body : List ℕ) (q : Option (Command × ℕ)) → first b body ≡ q
     → length (encoded (replyFor E s q)) ≤ roomAsked q
@@ -118,17 +87,17 @@ record Takes (q : Option (Command × ℕ)) (k : ℕ) : Type 0 where
   takes : k ≡ 1 + body
 
 takes : (log : List ℕ) (at : ℕ) (x : Next) → OneOf (0 ∷ 1 ∷ 2 ∷ 3 ∷ 4 ∷ []) (tagOf the-next.the-type x)
-    → Takes (commandAt log at x) (lengthOf x)
+    → Takes (commandAt log at x) (lengthOf (kindOf x))
 takes log at next.PowerUp h = record { command = _; body = _; comes = refl; takes = refl }
-takes log at (next.Read a n) h = record { command = _; body = _; comes = refl; takes = refl }
-takes log at (next.Write a n) h = record { command = _; body = _; comes = refl; takes = omega arith }
-takes log at (next.Advance k) h = record { command = _; body = _; comes = refl; takes = refl }
-takes log at (next.Insert k) h = record { command = _; body = _; comes = refl; takes = refl }
+takes log at (next.Read d) h = record { command = _; body = _; comes = refl; takes = refl }
+takes log at (next.Write d) h = record { command = _; body = _; comes = refl; takes = refl }
+takes log at next.Advance h = record { command = _; body = _; comes = refl; takes = refl }
+takes log at next.Insert h = record { command = _; body = _; comes = refl; takes = refl }
 takes log at next.Unreadable h = absurd (miss (0 ∷ 1 ∷ 2 ∷ 3 ∷ 4 ∷ []) 5 tt h)
 
 -- a command takes a byte at least
 pub falls : (log : List ℕ) (i : ℕ) (x : Next) (k : ℕ) → OneOf (0 ∷ 1 ∷ 2 ∷ 3 ∷ 4 ∷ []) (tagOf the-next.the-type x)
-    → i < length log → k ≡ lengthOf x → length log - (i + k) < length log - i
+    → i < length log → k ≡ lengthOf (kindOf x) → length log - (i + k) < length log - i
 falls log i x k d h e = let t : k ≡ 1 + takes log i x d .body = e ∙ takes log i x d .takes in omega arith
 
 -- ---- the loop
@@ -158,45 +127,42 @@ at-byte log i h = rw add-one (drop-cons log i 0 h)
 
 -- the loop stops at a command without room
 pub stops-full : (goal : Result) (log : List ℕ) (is-sound : Bool) (t out : List ℕ) (v : Session) (i j : ℕ) (x : Next) (q : Run)
-    → Going goal log is-sound t out v i j → i < length log → ComesNext log i x → length out - j < roomOf x
+    → Going goal log is-sound t out v i j → i < length log → ComesNext log i x → length out - j < roomAsked (commandAt log i x)
     → q ≡ returned i j OutputFull v → result q t out ≡ goal
 stops-full goal log is-sound t out v i j x q g h n l e =
     let s = state t v in
-    let a : length out - j < roomAsked (commandAt log i x) = rw (room-asked log i x) l in
-    let r = run-full s (byte i log) (drop (i + 1) log) (length out - j) _ (sym (n .command)) a in
+    let r = run-full s (byte i log) (drop (i + 1) log) (length out - j) _ (sym (n .command)) l in
     let k : j + 0 ≡ j = omega arith in
     let f = rw (put-none j out, k) at (from-stopped i j OutputFull [] s out) in
     rw e (f ∙ ap (λ y. resultFrom i j y out) (sym (ap (λ l. runLog E s l (length out - j)) (at-byte log i h) ∙ r)) ∙ g .leads)
 
 -- the reply is within the output, and in its place
 pub written-within : (log : List ℕ) (t out u ys : List ℕ) (v : Session) (i j : ℕ) (x : Next) (r : Replied)
-    → ComesNext log i x → j ≤ length out → roomOf x ≤ length out - j
+    → ComesNext log i x → j ≤ length out → roomAsked (commandAt log i x) ≤ length out - j
     → Replies E (state t v) (commandAt log i x) (midOf j (length out - j) out) u ys r
     → j + r .written ≤ length out
 written-within log t out u ys v i j x r n f l p =
     let b = reply-asked (state t v) (byte i log) (drop (i + 1) log) (commandAt log i x) (sym (n .command)) in
-    let a = room-asked log i x in
     let w = p .written .count in
     omega arith
 
 replied-at : (log : List ℕ) (t out u ys : List ℕ) (v : Session) (i j : ℕ) (x : Next) (r : Replied) → ComesNext log i x
-    → roomOf x ≤ length out - j → Replies E (state t v) (commandAt log i x) (midOf j (length out - j) out) u ys r
+    → roomAsked (commandAt log i x) ≤ length out - j → Replies E (state t v) (commandAt log i x) (midOf j (length out - j) out) u ys r
     → putMid j (length out - j) out ys ≡ put j (encoded (replyFor E (state t v) (commandAt log i x))) out
 replied-at log t out u ys v i j x r n l p =
     let b = reply-asked (state t v) (byte i log) (drop (i + 1) log) (commandAt log i x) (sym (n .command)) in
-    let a = room-asked log i x in
     rw (p .written .bytes) (put-part-back j (length out - j) _ out (omega arith))
 
 -- the loop stops at a 15, which is replied
 pub stops-15 : (goal : Result) (log : List ℕ) (is-sound : Bool) (t out u ys : List ℕ) (v : Session) (i j : ℕ) (x : Next) (r : Replied) (q : Run)
     → Going goal log is-sound t out v i j → i < length log → ComesNext log i x → x ≡ next.Unreadable
-    → roomOf x ≤ length out - j → Replies E (state t v) (commandAt log i x) (midOf j (length out - j) out) u ys r
+    → roomAsked (commandAt log i x) ≤ length out - j → Replies E (state t v) (commandAt log i x) (midOf j (length out - j) out) u ys r
     → q ≡ returned i (j + r .written) BadCommand (r .session) → result q u (putMid j (length out - j) out ys) ≡ goal
 stops-15 goal log is-sound t out u ys v i j x r q g h n e l p d =
     let s = state t v in
     let none-comes : commandAt log i x ≡ none = ap (commandAt log i) e in
     let b : runLog E s (byte i log ∷ drop (i + 1) log) (length out - j) ≡ stopped (some 15) (encoded (refused 15)) s =
-    log-is-its-commands E s (length out - j) .at-15 _ _ (sym (n .command) ∙ none-comes) (subst (λ y. roomOf y ≤ length out - j) e l) in
+    log-is-its-commands E s (length out - j) .at-15 _ _ (sym (n .command) ∙ none-comes) (subst (λ q. roomAsked q ≤ length out - j) none-comes l) in
     let o = replied-at log t out u ys v i j x r n l p ∙ ap (λ q. put j (encoded (replyFor E s q)) out) none-comes in
     let w = p .written .count ∙ ap (λ q. length (encoded (replyFor E s q))) none-comes in
     let a = p .left ∙ ap (afterFor E s) none-comes in
@@ -208,8 +174,8 @@ stops-15 goal log is-sound t out u ys v i j x r q g h n e l p d =
 pub goes-on : (goal : Result) (log : List ℕ) (is-sound : Bool) (t out u ys : List ℕ) (v : Session) (i j : ℕ) (x : Next) (r : Replied)
     → Going goal log is-sound t out v i j → i < length log → ComesNext log i x
     → OneOf (0 ∷ 1 ∷ 2 ∷ 3 ∷ 4 ∷ []) (tagOf the-next.the-type x)
-    → roomOf x ≤ length out - j → Replies E (state t v) (commandAt log i x) (midOf j (length out - j) out) u ys r
-    → Going goal log is-sound u (putMid j (length out - j) out ys) (r .session) (i + lengthOf x) (j + r .written)
+    → roomAsked (commandAt log i x) ≤ length out - j → Replies E (state t v) (commandAt log i x) (midOf j (length out - j) out) u ys r
+    → Going goal log is-sound u (putMid j (length out - j) out ys) (r .session) (i + lengthOf (kindOf x)) (j + r .written)
 goes-on goal log is-sound t out u ys v i j x r g h n d l p =
     let s = state t v in
     let y = takes log i x d in
@@ -221,14 +187,14 @@ goes-on goal log is-sound t out u ys v i j x r g h n d l p =
     let w : r .written ≡ length bs = p .written .count ∙ ap (λ q. length (encoded (replyFor E s q))) (y .comes) in
     let a : state u (r .session) ≡ after E s c = p .left ∙ ap (afterFor E s) (y .comes) in
     let z : length (put j bs out) ≡ length out = length-put j bs out in
-    let room : roomFor c ≤ length out - j = subst (λ k. k ≤ length out - j) (sym (room-asked log i x) ∙ ap roomAsked (y .comes)) l in
+    let room : roomFor c ≤ length out - j = subst (λ k. k ≤ length out - j) (ap roomAsked (y .comes)) l in
     let b = log-is-its-commands E s (length out - j) .at-command (byte i log) (drop (i + 1) log) c m (sym (n .command) ∙ y .comes) room in
     let k : length out - j - length bs ≡ length out - (j + length bs) = omega arith in
     let q : drop m (drop (i + 1) log) ≡ drop (i + (1 + m)) log = drop-drop m (i + 1) log ∙ ap (λ e. drop e log) (add-assoc i 1 m) in
     record {
       there = n .whole;
       fits = rw (o, z) (written-within log t out u ys v i j x r n (g .fits) l p);
-      same = g .same ∙ sound-same s c ∙ ap (λ e. sound (e .tag)) (sym a);
+      same = g .same ∙ sound-same E s c ∙ ap (λ e. sound (e .tag)) (sym a);
       leads =
           rw (o, w, a, y .takes, z, ← k, ← q)
           (sym (from-onward i j (1 + m) bs _ out)

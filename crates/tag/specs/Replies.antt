@@ -8,9 +8,9 @@ use Rattle.rules.specs.declared.Answer.{Answer}
 use Rattle.rules.specs.declared.Session.{Session}
 use Rattle.rules.specs.Bytes.{put}
 use Rattle.rules.specs.State.{Cipher, State, state}
-use Rattle.rules.specs.Command.{Command, Reply, done, refused, reply, after}
+use Rattle.rules.specs.Command.{Command, Reply, read, done, refused, reply, after}
 use Rattle.rules.specs.Calls.{replyOf}
-use Rattle.rules.specs.Log.{encoded}
+use Rattle.rules.specs.Log.{countOf, encoded}
 use Rattle.tag.specs.declared.Replied.{Replied}
 
 -- what is replied to the command that comes next, with the length of its body, and the state after it; `none` is a 15
@@ -21,6 +21,10 @@ replyFor E s (some x) = reply E s (x .0)
 abbrev pub afterFor : Cipher → State → Option (Command × ℕ) → State
 afterFor E s none = s
 afterFor E s (some x) = after E s (x .0)
+
+-- a read of a log, by the last digit of its kind
+abbrev pub readCounted : (address digit : ℕ) → Command
+readCounted a d = read a (countOf d) (countOf d)
 
 -- the reply r at the start of the output: o is left of `out`, and n is the length of the reply
 pub record Written (r : Reply) (out o : List ℕ) (n : ℕ) : Type 0 where

@@ -9,10 +9,11 @@ ghost use Rattle.rules.specs.State.{state, poweredUp};
 ghost use Rattle.rules.specs.Command.{reply, filled};
 ghost use Rattle.rules.specs.Command as command;
 ghost use Rattle.rules.specs.Calls.{CarriedOut};
+ghost use Rattle.rules.specs.Log.{countOf};
 ghost use Rattle.rules.specs.Runs.{returned, result, runOver};
 ghost use Rattle.xxtea.specs.Block.{E};
-ghost use Rattle.command_log.specs.Next.{ComesNext, commandAt, roomOf};
-ghost use Rattle.tag.specs.Replies.{Answered, Written, Replies};
+ghost use Rattle.command_log.specs.Next.{ComesNext, commandAt, roomAsked};
+ghost use Rattle.tag.specs.Replies.{Answered, Written, Replies, readCounted};
 use command_log::Next;
 use rules::Answer;
 use rules::Outcome;
@@ -81,15 +82,16 @@ fn reply_read(
     is_sound: bool,
     session: Session,
     address: usize,
-    count: usize,
+    digit: u8,
     output: &mut [u8],
 ) -> usize
-    requires { ⌜ («is_sound» ≡ sound (now tag)) × (1 ≤ count) × (count ≤ 32) × (1 + count ≤ length (now output)) ⌝ }
-    ensures { λ r. ⌜ Written (reply E (state (now (tag .entry)) session) (command.read address count count)) (now (output .entry)) (now (output .exit)) r ⌝ }
+    requires { ⌜ («is_sound» ≡ sound (now tag)) × (1 ≤ countOf digit) × (1 + countOf digit ≤ length (now output)) ⌝ }
+    ensures { λ r. ⌜ Written (reply E (state (now (tag .entry)) session) (readCounted address digit)) (now (output .entry)) (now (output .exit)) r ⌝ }
 {
+    let count = command_log::count_of(digit);
     let end = 1 + count;
     let answer = reads::read(tag, is_sound, session, address, count, &mut output[1..end]);
-    command_log::put_read(output, answer, count)
+    command_log::put_read(output, answer, digit)
 }
 
 // What a command of a log leaves beside the tag and its reply: the reply's length, and the session.
@@ -119,28 +121,34 @@ fn reply_to(
     next: Next,
     output: &mut [u8],
 ) -> Replied
-    requires { ⌜ («is_sound» ≡ sound (now tag)) × ComesNext (now log) at next × (roomOf next ≤ length (now output)) ⌝ }
+    requires { ⌜ («is_sound» ≡ sound (now tag)) × ComesNext (now log) at next × (roomAsked (commandAt (now log) at next) ≤ length (now output)) ⌝ }
     ensures { λ r. ⌜ Replies E (state (now (tag .entry)) session) (commandAt (now (log .entry)) at next) (now (output .entry)) (now (tag .exit)) (now (output .exit)) r ⌝ }
 {
     match next {
         Next::PowerUp => reply_with(output, Answer::Done, power_up()),
-        Next::Read(address, count) => Replied {
-            written: reply_read(tag, is_sound, session, address, count, output),
-            session,
-        },
-        Next::Write(address, count) => {
+        Next::Read(digit) => {
+            let address = octets::number32(log, at + 1);
+            Replied {
+                written: reply_read(tag, is_sound, session, address, digit, output),
+                session,
+            }
+        }
+        Next::Write(digit) => {
+            let address = octets::number32(log, at + 1);
             let start = at + 5;
-            let end = start + count;
+            let end = start + command_log::count_of(digit);
             let outcome = writes::write(tag, is_sound, session, address, &log[start..end]);
             let answer = outcome.answer;
             let after = outcome.session;
             reply_with(output, answer, after)
         }
-        Next::Advance(segment) => {
+        Next::Advance => {
+            let segment = octets::number16(log, at + 1);
             let answer = moves::advance(tag, is_sound, session, segment);
             reply_with(output, answer, session)
         }
-        Next::Insert(segment) => {
+        Next::Insert => {
+            let segment = octets::number16(log, at + 1);
             let start = at + 3;
             let end = start + 16;
             let host = octets::sixteen(&log[start..end]);

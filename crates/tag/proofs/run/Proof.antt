@@ -8,7 +8,7 @@ use borrow.Rule.Slice.PartMut.{putMid, mid-len, same-len-mid}
 use Rattle.rules.specs.State.{state}
 use Rattle.rules.specs.Runs.{runOver}
 use Rattle.xxtea.specs.Block.{E}
-use Rattle.command_log.specs.Next.{roomOf}
+use Rattle.command_log.specs.Next.{roomAsked, commandAt}
 use Rattle.tag.proofs.RunLaws.{Going, going-first, written-within, falls, stops-full, stops-15, stops-end, goes-on}
 use borrow.Author.Needs.{needs}
 use Rattle.tag.proofs.run.Statement.{statement}
@@ -38,7 +38,7 @@ sub-if1 : tie.Need-sub-if1 Inv-loop μ-loop
 sub-if1 c = search needs
 
 room-of-requires : tie.Need-room-of-requires Inv-loop μ-loop
-room-of-requires c κs = c .next-at .ensures .counted
+room-of-requires c κs = search needs
 
 stopped-requires : tie.Need-stopped-requires Inv-loop μ-loop
 stopped-requires c κs = search needs
@@ -139,7 +139,7 @@ returns-2 c =
     (n .ensures) (c .before .enum-told .given .1) (room at) (called at .reply-to .ensures) (c .stopped2 .ensures)
 
 length-of-requires : tie.Need-length-of-requires Inv-loop μ-loop
-length-of-requires c κs = parsed (c .before) .next-at .ensures .counted
+length-of-requires c κs = search needs
 
 add-read : tie.Need-add-read Inv-loop μ-loop
 add-read c =
