@@ -1,12 +1,12 @@
 -- An insertion: that its rows are as the loop asks, and that pairs, row and unit are what the rules store. Assumes nothing.
-use Prim.Native.Nat.{ℕ, _+_, _-_, _*_, _≤_, _<_}
+use Prim.Native.Nat.{ℕ, _+_, _-_, _≤_, _<_}
 use mathlib.Core.Path.{_≡_, refl, sym, ap, ap₂, _∙_}
 use mathlib.Core.Bool.{true}
-use mathlib.Core.List.{List, _++_}
+use mathlib.Core.List.{List}
 use native.Mathlib.Omega.{arith}
 use lib.ListN.{length}
 use borrow.Rule.Slice.PartMut.{midOf, putMid}
-use Rattle.rules.specs.Bytes.{bytesOf, part, put}
+use Rattle.rules.specs.Bytes.{part, put}
 use Rattle.rules.specs.Map.{readersAt, segments, segmentsAt, sound, unitAt}
 use Rattle.rules.specs.Units.{unitBytes}
 use Rattle.rules.specs.Hosts.{rowAt, hostAt, hosts, readers}
@@ -20,7 +20,7 @@ use Rattle.rules.proofs.HostList.{each-at, at-host}
 use Rattle.rules.proofs.SlotPairs.{Beside}
 use Rattle.rules.proofs.SharedKeys.{all-beside, own-end}
 use Rattle.octets.proofs.Laws.{put-back, put-part, part-lent, length-lent}
-use Rattle.hosts.specs.Joining.{Insertable, Rows, allPaired}
+use Rattle.hosts.specs.Joining.{Insertable, Rows, allPaired, rowStored}
 
 -- what the code asks of the sizes
 pub record Sized (t : List ℕ) (k : ℕ) (id : List ℕ) : Type 0 where
@@ -70,7 +70,7 @@ module _ (t : List ℕ) (k : ℕ) (id : List ℕ) (insertable : Insertable t k i
 
   -- neither the pairs nor the row touch its unit
   unit-stays : (t₂ : List ℕ)
-      → t₂ ≡ put (readersAt + rowAt (length (hosts t))) (id ++ bytesOf 2 (k + 1)) (apply (pairsOf t k id) t)
+      → t₂ ≡ rowStored (apply (pairsOf t k id) t) (length (hosts t)) k id
       → part (unitAt k) 32 t₂ ≡ unitBytes t k
   unfolding unitBytes
   unit-stays t₂ e =
@@ -78,23 +78,21 @@ module _ (t : List ℕ) (k : ℕ) (id : List ℕ) (insertable : Insertable t k i
       let h = f .there in
       let z = row-end t k id f in
       ap (part (unitAt k) 32) e
-      ∙ part-put (unitAt k) 32 (readersAt + rowAt (length (hosts t))) (id ++ bytesOf 2 (k + 1)) (apply (pairsOf t k id) t) (omega arith)
+      ∙ part-put (unitAt k) 32 (readersAt + rowAt (length (hosts t))) _ (apply (pairsOf t k id) t) (omega arith)
       ∙ apply-part (unitAt k) 32 (pairsOf t k id) t (pairs-off t k id (unitAt k) 32 w f (omega arith) (λ l o. omega arith))
 
   -- the tag after the pairs, and after the row; the unit is as it was
   pub inserted-all : (x : ℕ) (t₁ t₂ ys : List ℕ) → x ≡ length (hosts t)
-      → t₁ ≡ allPaired t x k id
-      → t₂ ≡ put (readersAt + rowAt x) (id ++ bytesOf 2 (k + 1)) t₁ → length t₂ ≡ length t
+      → t₁ ≡ allPaired t x k id → t₂ ≡ rowStored t₁ x k id → length t₂ ≡ length t
       → ys ≡ put 0 (inserted (midOf (unitAt k) (unitAt k + 32 - unitAt k) t₂)) (midOf (unitAt k) (unitAt k + 32 - unitAt k) t₂)
       → putMid (unitAt k) (unitAt k + 32 - unitAt k) t₂ ys ≡ apply (insertStores t k id) t
   unfolding insertStores rowStore apply
   inserted-all x t₁ t₂ ys q e₁ e₂ l e₃ =
       let a = unitAt k in
       let u = unitBytes t k in
-      let row = id ++ bytesOf 2 (k + 1) in
       let first : t₁ ≡ apply (pairsOf t k id) t = rw q at e₁ in
-      let second : t₂ ≡ put (readersAt + rowAt (length (hosts t))) row (apply (pairsOf t k id) t) =
-      e₂ ∙ ap₂ (λ n v. put (readersAt + rowAt n) row v) q first in
+      let second : t₂ ≡ rowStored (apply (pairsOf t k id) t) (length (hosts t)) k id =
+      e₂ ∙ ap₂ (λ n v. rowStored v n k id) q first in
       let inside : a + 32 ≤ length t₂ = omega (arith, insert-sizes .inside, l) in
       let same : part a 32 t₂ ≡ u = unit-stays t₂ second in
       let ms = inserted u in
@@ -102,5 +100,4 @@ module _ (t : List ℕ) (k : ℕ) (id : List ℕ) (insertable : Insertable t k i
       let back = put-back a 32 t₂ ys (put 0 ms (part a 32 t₂))
       (e₃ ∙ ap (λ v. put 0 (inserted v) v) (part-lent a 32 t₂) ∙ ap (λ v. put 0 (inserted v) (part a 32 t₂)) same)
       (length-put 0 ms (part a 32 t₂) ∙ length-lent a 32 t₂ inside) inside in
-      back ∙ put-part a 32 ms t₂ (omega (arith, two)) ∙ ap (put a ms) second
-      ∙ sym (apply-append (pairsOf t k id) _ t)
+      back ∙ put-part a 32 ms t₂ (omega (arith, two)) ∙ ap (put a ms) second ∙ sym (apply-append (pairsOf t k id) _ t)

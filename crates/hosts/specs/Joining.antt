@@ -4,11 +4,12 @@ use Prim.Native.Nat.{ℕ, _+_, _-_, _*_, _≤_, _<_}
 use mathlib.Core.Path.{_≡_}
 use mathlib.Core.Logic.{_≢_}
 use mathlib.Core.Bool.{true, false}
-use mathlib.Core.List.{List}
+use mathlib.Core.List.{List, _++_}
 use lib.ListN.{length}
-use Rattle.rules.specs.Map.{segments, segmentsAt, sound, unitAt}
+use Rattle.rules.specs.Bytes.{bytesOf, put}
+use Rattle.rules.specs.Map.{segments, segmentsAt, sound, readersAt, unitAt}
 use Rattle.rules.specs.Units.{wellFormed, unitBytes, unitOf}
-use Rattle.rules.specs.Hosts.{Host, hostAt, hosts, hostsFrom, hostSlotAt, mostHosts, readers}
+use Rattle.rules.specs.Hosts.{Host, hostAt, hosts, hostsFrom, hostSlotAt, mostHosts, readers, rowAt}
 use Rattle.rules.specs.Refusals.{isFilling, listRefuses}
 use Rattle.rules.specs.Effects.{apply, joinStores, pairStores}
 
@@ -51,3 +52,7 @@ rowPaired t x k id i =
 
 abbrev pub allPaired : List ℕ → (x k : ℕ) (id : List ℕ) → List ℕ
 allPaired t x k id = apply (joinStores (segments t) k x id 0 (hosts t) t) t
+
+-- the tag with its row, "id first and segment number plus one after"
+abbrev pub rowStored : List ℕ → (x k : ℕ) (id : List ℕ) → List ℕ
+rowStored t x k id = put (readersAt + rowAt x) (id ++ bytesOf 2 (k + 1)) t

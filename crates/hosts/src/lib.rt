@@ -3,16 +3,15 @@
 // the reader ID segment, and the number of its rows where they go through them.
 ghost use mathlib.Core.Path.{_≡_};
 ghost use mathlib.Core.Bool.{true};
-ghost use mathlib.Core.List.{_++_};
 ghost use Prim.Native.Nat.{_+_, _%_, _≤_, _<_};
 ghost use lib.ListN.{length};
-ghost use Rattle.rules.specs.Bytes.{bytesOf, part, put, xor, Apart};
-ghost use Rattle.rules.specs.Hosts.{hostAt, readers, rowAt, any, hasId, twin};
+ghost use Rattle.rules.specs.Bytes.{part, put, xor, Apart};
+ghost use Rattle.rules.specs.Hosts.{hostAt, readers, any, hasId, twin};
 ghost use Rattle.rules.specs.Hosts as list;
-ghost use Rattle.rules.specs.Map.{segments, sound, readersAt, unitAt};
+ghost use Rattle.rules.specs.Map.{segments, sound, unitAt};
 ghost use Rattle.rules.specs.Refusals.{hides, listRefuses, misfit, rowFits};
 ghost use Rattle.rules.specs.Effects.{apply, insertStores, joinedSlot, pairStores};
-ghost use Rattle.hosts.specs.Joining.{Insertable, Rows, allPaired, rowPaired, rowsFrom, rowsIn};
+ghost use Rattle.hosts.specs.Joining.{Insertable, Rows, allPaired, rowPaired, rowStored, rowsFrom, rowsIn};
 use rules::Model;
 use units::Decoded;
 
@@ -278,7 +277,7 @@ fn join_all(tag: &mut [u8], base: usize, x: usize, k: usize, id: [u8; 16])
 // Row x of the list: the id, and the segment number plus one.
 fn store_row(tag: &mut [u8], x: usize, k: usize, id: [u8; 16])
     requires { ⌜ (unitAt 0 ≤ length (now tag)) × (x < 85) × (k < 65536) × (length id ≡ 16) ⌝ }
-    ensures { λ _. ⌜ now (tag .exit) ≡ put (readersAt + rowAt x) (id ++ bytesOf 2 (k + 1)) (now (tag .entry)) ⌝ }
+    ensures { λ _. ⌜ now (tag .exit) ≡ rowStored (now (tag .entry)) x k id ⌝ }
 {
     let at = layout::READERS + ROW_SIZE * x;
     octets::store_at(tag, at, &id);

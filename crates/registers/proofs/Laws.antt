@@ -4,7 +4,7 @@ use Prim.Native.Nat.{ℕ, _≤_, _<_}
 use mathlib.Core.Path.{_≡_, refl, sym, ap, _∙_}
 use mathlib.Core.Bool.{Bool, true, false, not, _||_}
 use mathlib.Core.List.{List, [], _∷_, _++_}
-use mathlib.Core.Option.{some}
+use mathlib.Core.Option.{none, some}
 use lib.ListN.{length, set, replicate}
 use lib.Dec.{eqb, leb, ltb}
 use borrow.Author.Tests.{leb-true, leb-false, le-leb, lt-leb, ltb-false, le-ltb, lt-ltb, eq-eqb, ne-eqb, not-false}
@@ -15,10 +15,7 @@ use Rattle.rules.proofs.Register as the-register
 use Rattle.rules.specs.declared.Session.{Session}
 use Rattle.rules.specs.declared.Register.{Register}
 use Rattle.rules.specs.declared.Register.the-variants.{Read, Write, Edit, Name, Id, Commit, Pa}
-use Rattle.rules.specs.declared.Answer.{Answer}
-use Rattle.rules.specs.declared.Answer.the-variants.{Done}
 use Rattle.rules.specs.Bytes.{part, put, number, same, xor}
-use Rattle.rules.specs.Answers.{refusalOf}
 use Rattle.rules.specs.Map.{counterBytes, flagAt, pinAt}
 use Rattle.rules.specs.State.{state, pinIndex, ownerIndex, pin, owner, response, withRead, withWrite, withEdit, withName, withId, withPa}
 use Rattle.rules.specs.Refusals.{_when_else_, granted, lowest, registerChecks, blockChecks, responseChecks, nameChecks, commitChecks}
@@ -48,9 +45,9 @@ pub within : (a b : ℕ) → a ≤ b → not (leb a b) ≡ false
 within a b h = rw (le-leb a b h)
 
 -- the PIN index, where the flag rule does not refuse
-pub index-within : (t : List ℕ) (i : ℕ) (r : Answer) → refusalOf r ≡ lowest (nameChecks t i) → r ≡ Done → i ≤ 255
+pub index-within : (t : List ℕ) (i : ℕ) → lowest (nameChecks t i) ≡ none → i ≤ 255
 unfolding nameChecks
-index-within t i r e d = leb-true i 255 (not-false _ (passes 9 _ _ (sym e ∙ ap refusalOf d) .0))
+index-within t i e = leb-true i 255 (not-false _ (passes 9 _ _ e .0))
 
 past : (a b : ℕ) → ltb b a ≡ not (leb a b)
 past a b = by (leb a b) refl

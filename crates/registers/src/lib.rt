@@ -29,7 +29,7 @@ fn response(tag: &[u8], key: usize) -> [u8; 16]
     xxtea::encipher_block(octets::sixteen(&tag[key..end]), block)
 }
 
-// What READ, WRITE, EDIT and NAME ask of the PIN index, and of the flag.
+// What READ, WRITE, EDIT, NAME and COMMIT ask of the PIN index, and of the flag.
 fn judge_flag(tag: &[u8], pin: usize) -> Answer
     requires { ⌜ 16 ≤ length (now tag) ⌝ }
     ensures { λ r. ⌜ refusalOf r ≡ lowest (nameChecks (now (tag .entry)) pin) ⌝ }
@@ -72,7 +72,7 @@ fn guard_fits(tag: &[u8], owner: usize, guard: &[u8], data: &[u8]) -> bool
     octets::equal(guard, &enciphered[4..16])
 }
 
-// COMMIT: the indexes, the flag, and then the guard.
+// COMMIT: PIN index 0 and the owner index, then what the others ask too, and the guard.
 fn judge_commit(tag: &[u8], pin: usize, owner: usize, guard: &[u8], data: &[u8]) -> Answer
     requires { ⌜ (readersAt ≤ length (now tag)) × (length (now «data») ≡ 16) ⌝ }
     ensures { λ r. ⌜ refusalOf r ≡ lowest (commitChecks E (now (tag .entry)) pin owner (now (guard .entry)) (now («data» .entry))) ⌝ }
