@@ -53,6 +53,6 @@ rowPaired t x k id i =
 abbrev pub allPaired : List ℕ → (x k : ℕ) (id : List ℕ) → List ℕ
 allPaired t x k id = apply (joinStores (segments t) k x id 0 (hosts t) t) t
 
--- the tag with its row, "id first and segment number plus one after"
+-- the tag after its row is stored, "id first and segment number plus one after"
 abbrev pub rowStored : List ℕ → (x k : ℕ) (id : List ℕ) → List ℕ
 rowStored t x k id = put (readersAt + rowAt x) (id ++ bytesOf 2 (k + 1)) t
