@@ -92,8 +92,7 @@ returns-2 c =
     let read = unit .unit-of .ensures in
     let number = advance-judged _ _ k _ _ (start .pre) (there .among) read (judged .judge-advance .ensures) in
     let none = sym number ∙ ap (λ v. refusalOf (moveAnswer v)) told in
-    let model = rw read at (judged .judge-advance .ensures .granted _ told) in
-    (
+    let model = rw read at (judged .judge-advance .ensures .granted _ told) in (
       sym none,
       advance-moves _ _ k _ _ _ (start .pre) (there .among) none model start-at
           (rw (unit-lent t k _ start-at) at (c .before .before .advance .ensures)),

@@ -10,6 +10,9 @@ use borrow.Author.Needs.{needs}
 use Rattle.tag.proofs.reply_read.Statement.{statement}
 use Rattle.tag.proofs.reply_read.Tie as tie
 
+count-of-requires : tie.Need-count-of-requires
+count-of-requires c κs = search needs
+
 add-end : tie.Need-add-end
 add-end c = search needs
 
@@ -33,22 +36,26 @@ same-length c = search needs
 
 returns : tie.Need-returns
 returns c =
-    let start = c .before .before .before .before .before .before .before .before .before .before in
+    let counted = c .before .before .before .before .before .before .before .before in
+    let start = counted .before .before .before in
     let a = start .args in
-    let n = a .count in
+    let n = counted .count-of .result in
+    let e = counted .count-of .ensures .0 in
     let k : 1 + n - 1 ≡ n = omega arith in
-    let m : length (midOf 1 (1 + n - 1) (a .output .now)) ≡ n = mid-len 1 (1 + n) (a .output .now) (start .pre .3) ∙ k in
+    let m : length (midOf 1 (1 + n - 1) (a .output .now)) ≡ n =
+    mid-len 1 (1 + n) (a .output .now) (omega (arith, start .pre .2)) ∙ k in
     let read = c .before .before .before .before .before .before .read in
-    let put = c .before .before .put-read .ensures in
+    let put = rw (← e) at (c .before .before .put-read .ensures) in
     let x =
     read-written (state (a .tag .now) (a .session)) (a .address) n _ _ (a .output .now) _ (read .result) m k
     (read .ensures .0 .answered) (read .ensures .1) in
-    record { bytes = put .0 ∙ x .bytes; count = put .1 ∙ x .count }
+    rw (← e) (record { bytes = put .0 ∙ x .bytes; count = put .1 ∙ x .count })
 
 pub reply-read-spec : {M : Type 1} → statement M
 reply-read-spec =
     tie.close
     (tie.spec
+    count-of-requires
     add-end
     sub-read
     part-read-start

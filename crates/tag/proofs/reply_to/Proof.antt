@@ -1,15 +1,27 @@
 -- `tag::reply_to` meets its contract: each kind of command is carried out and replied to. Assumes nothing.
 use Prim.Native.Nat.{_+_, _≤_}
-use mathlib.Core.Path.{refl, ap, subst}
+use mathlib.Core.Path.{_≡_, refl, ap, subst, _∙_}
 use native.Mathlib.Omega.{arith}
 use lib.ListN.{length}
 use Rattle.rules.specs.State.{state}
 use Rattle.rules.specs.Command.{grant}
-use Rattle.command_log.specs.Next.{commandAt, lengthOf, roomOf, Counted}
+use Rattle.rules.specs.Log.{bodyLength, commandOf, roomFor}
+use Rattle.command_log.specs.declared.Next.{Next}
+use Rattle.command_log.specs.Next.{ComesNext, kindOf, commandAt, lengthOf, roomAsked}
+use Rattle.command_log.proofs.Laws.{read-at, write-at, advance-at, insert-at, read-counted}
 use Rattle.tag.proofs.Laws.{answered, write-replied, insert-replied, powered-up, read-replied, unreadable-replied}
 use borrow.Author.Needs.{needs}
 use Rattle.tag.proofs.reply_to.Statement.{statement}
 use Rattle.tag.proofs.reply_to.Tie as tie
+
+-- the log has all of what comes next, and the output room for its reply
+long : (s : tie.Start) (x : Next) → s .args .next ≡ x → s .args .at + lengthOf (kindOf x) ≤ length (s .args .log .now)
+long s x e = subst (λ x. s .args .at + lengthOf (kindOf x) ≤ length (s .args .log .now)) e (s .pre .1 .whole)
+
+room : (s : tie.Start) (x : Next) → s .args .next ≡ x
+    → roomAsked (commandAt (s .args .log .now) (s .args .at) x) ≤ length (s .args .output .now)
+room s x e =
+    subst (λ x. roomAsked (commandAt (s .args .log .now) (s .args .at) x) ≤ length (s .args .output .now)) e (s .pre .2)
 
 enum-told : tie.Need-enum-told
 enum-told c = search needs
@@ -18,32 +30,47 @@ power-up-requires : tie.Need-power-up-requires
 power-up-requires c κs = search needs
 
 reply-with-requires : tie.Need-reply-with-requires
-reply-with-requires c κs =
-    let start = c .before .before .before .before .before .before .before in
-    subst (λ x. roomOf x ≤ length (start .args .output .now)) (c .before .before .enum-told .given .1) (start .pre .2)
+unfolding commandOf roomFor
+reply-with-requires c κs = room (c .before .before .before .before .before .before .before) _ (c .before .before .enum-told .given .1)
 
 enum-known-next : tie.Need-enum-known-next
 enum-known-next c = search needs
 
+add-number32 : tie.Need-add-number32
+add-number32 c = search needs
+
+number32-requires : tie.Need-number32-requires
+unfolding bodyLength
+number32-requires c κs =
+    omega (arith, long (c .before .before .before .before .before .before) _ (c .before .next .given .1))
+
 reply-read-requires : tie.Need-reply-read-requires
+unfolding commandOf roomFor
 reply-read-requires c κs =
-    let start = c .before .before .before .before .before .before .before .before in
-    let e = c .before .before .before .next .given .1 in
-    let n = subst Counted e (start .pre .1 .counted) in
-    (start .pre .0, n .0, n .1, subst (λ x. roomOf x ≤ length (start .args .output .now)) e (start .pre .2))
+    let start = c .before .before .before .before .before .before .before .before .before in
+    let e = c .before .before .before .before .next .given .1 in
+    let n = subst (ComesNext (start .args .log .now) (start .args .at)) e (start .pre .1) in
+    (start .pre .0, read-counted _ _ _ n, room start _ e)
 
 enum-known-next-2 : tie.Need-enum-known-next-2
 enum-known-next-2 c = search needs
 
+add-number32-2 : tie.Need-add-number32-2
+add-number32-2 c = search needs
+
+number32-requires-2 : tie.Need-number32-requires-2
+unfolding bodyLength
+number32-requires-2 c κs =
+    omega (arith, long (c .before .before .before .before .before .before) _ (c .before .next2 .given .1))
+
 add-start : tie.Need-add-start
 add-start c = search needs
 
+count-of-requires : tie.Need-count-of-requires
+count-of-requires c κs = search needs
+
 add-end : tie.Need-add-end
-add-end c =
-    let start = c .before .before .before .before .before .before in
-    let a = start .args in
-    let i = subst (λ x. a .at + lengthOf x ≤ length (a .log .now)) (c .before .next2 .given .1) (start .pre .1 .whole) in
-    omega arith
+add-end c = search needs
 
 sub-write : tie.Need-sub-write
 sub-write c = search needs
@@ -52,33 +79,45 @@ part-write-start : tie.Need-part-write-start
 part-write-start c = search needs
 
 part-write-end : tie.Need-part-write-end
+unfolding bodyLength
 part-write-end c =
-    let start = c .before .before .before .before .before .before .before in
-    let a = start .args in
-    let i = subst (λ x. a .at + lengthOf x ≤ length (a .log .now)) (c .before .before .next2 .given .1) (start .pre .1 .whole) in
-    omega arith
+    omega (arith, c .before .count-of .ensures .0, long (c .before .before .before .before .before .before .before .before .before) _ (c .before .before .before .before .next2 .given .1))
 
 write-requires : tie.Need-write-requires
 write-requires c κs = search needs
 
 reply-with-requires-2 : tie.Need-reply-with-requires-2
-reply-with-requires-2 c κs =
-    let start = c .before .before .before .before .before .before .before .before .before .before .before .before .before in
-    subst (λ x. roomOf x ≤ length (start .args .output .now)) (c .before .before .before .before .before .before .before .before .next2 .given .1) (start .pre .2)
+unfolding commandOf roomFor
+reply-with-requires-2 c κs = room (c .before .before .before .before .before .before .before .before .before .before .before .before .before .before .before) _ (c .before .before .before .before .before .before .before .before .before .before .next2 .given .1)
 
-enum-known-next-3 : tie.Need-enum-known-next-3
-enum-known-next-3 c = search needs
+enum-told-2 : tie.Need-enum-told-2
+enum-told-2 c = search needs
+
+add-number16 : tie.Need-add-number16
+add-number16 c = search needs
+
+number16-requires : tie.Need-number16-requires
+unfolding bodyLength
+number16-requires c κs =
+    omega (arith, long (c .before .before .before .before .before) _ (c .enum-told2 .given .1))
 
 advance-requires : tie.Need-advance-requires
 advance-requires c κs = search needs
 
 reply-with-requires-3 : tie.Need-reply-with-requires-3
-reply-with-requires-3 c κs =
-    let start = c .before .before .before .before .before .before .before .before .before .before .before in
-    subst (λ x. roomOf x ≤ length (start .args .output .now)) (c .before .before .before .before .before .before .next3 .given .1) (start .pre .2)
+unfolding commandOf roomFor
+reply-with-requires-3 c κs = room (c .before .before .before .before .before .before .before .before .before .before .before) _ (c .before .before .before .before .before .before .enum-told2 .given .1)
 
-enum-known-next-4 : tie.Need-enum-known-next-4
-enum-known-next-4 c = search needs
+enum-told-3 : tie.Need-enum-told-3
+enum-told-3 c = search needs
+
+add-number16-2 : tie.Need-add-number16-2
+add-number16-2 c = search needs
+
+number16-requires-2 : tie.Need-number16-requires-2
+unfolding bodyLength
+number16-requires-2 c κs =
+    omega (arith, long (c .before .before .before .before .before) _ (c .enum-told3 .given .1))
 
 add-start-2 : tie.Need-add-start-2
 add-start-2 c = search needs
@@ -93,11 +132,9 @@ part-sixteen-start : tie.Need-part-sixteen-start
 part-sixteen-start c = search needs
 
 part-sixteen-end : tie.Need-part-sixteen-end
+unfolding bodyLength
 part-sixteen-end c =
-    let start = c .before .before .before .before .before .before in
-    let a = start .args in
-    let i = subst (λ x. a .at + lengthOf x ≤ length (a .log .now)) (c .before .next4 .given .1) (start .pre .1 .whole) in
-    omega arith
+    omega (arith, long (c .before .before .before .before .before .before) _ (c .before .enum-told3 .given .1))
 
 sixteen-requires : tie.Need-sixteen-requires
 sixteen-requires c κs = search needs
@@ -106,22 +143,20 @@ insert-requires : tie.Need-insert-requires
 insert-requires c κs = search needs
 
 reply-with-requires-4 : tie.Need-reply-with-requires-4
-reply-with-requires-4 c κs =
-    let start = c .before .before .before .before .before .before .before .before .before .before .before .before .before in
-    subst (λ x. roomOf x ≤ length (start .args .output .now)) (c .before .before .before .before .before .before .before .before .next4 .given .1) (start .pre .2)
+unfolding commandOf roomFor
+reply-with-requires-4 c κs = room (c .before .before .before .before .before .before .before .before .before .before .before .before .before) _ (c .before .before .before .before .before .before .before .before .enum-told3 .given .1)
 
-enum-told-2 : tie.Need-enum-told-2
-enum-told-2 c = search needs
+enum-told-4 : tie.Need-enum-told-4
+enum-told-4 c = search needs
 
 reply-with-requires-5 : tie.Need-reply-with-requires-5
-reply-with-requires-5 c κs =
-    let start = c .before .before .before .before .before .before in
-    subst (λ x. roomOf x ≤ length (start .args .output .now)) (c .before .enum-told2 .given .1) (start .pre .2)
+reply-with-requires-5 c κs = room (c .before .before .before .before .before .before) _ (c .before .enum-told4 .given .1)
 
 same-length : tie.Need-same-length
 same-length c = search needs
 
 returns : tie.Need-returns
+unfolding commandOf
 returns c =
     let a = c .before .before .before .before .before .before .before .before .before .before .args in
     let e = ap (commandAt (a .log .now) (a .at)) (c .before .before .before .before .before .enum-told .given .1) in
@@ -135,9 +170,12 @@ same-length-3 c = search needs
 
 returns-2 : tie.Need-returns-2
 returns-2 c =
-    let a = c .before .before .before .before .before .before .before .before .before .before .before .args in
-    let e = ap (commandAt (a .log .now) (a .at)) (c .before .before .before .before .before .before .next .given .1) in
-    read-replied (state (a .tag .now) (a .session)) _ _ _ _ _ _ _ e (c .before .before .reply-read .ensures)
+    let read = c .before .before .before .before .before in
+    let told = read .before .before in
+    let a = told .before .before .before .before .before .args in
+    let e = ap (commandAt (a .log .now) (a .at)) (told .next .given .1) in
+    read-replied (state (a .tag .now) (a .session)) _ _ _ _ _ _ _ (e ∙ read-at _ _ _ _ (read .number32 .ensures))
+    (c .before .before .reply-read .ensures)
 
 same-length-4 : tie.Need-same-length-4
 same-length-4 c = search needs
@@ -147,10 +185,15 @@ same-length-5 c = search needs
 
 returns-3 : tie.Need-returns-3
 returns-3 c =
-    let a = c .before .before .before .before .before .before .before .before .before .before .before .before .before .before .before .before .args in
-    let e = ap (commandAt (a .log .now) (a .at)) (c .before .before .before .before .before .before .before .before .before .before .before .next2 .given .1) in
     let written = c .before .before .before .before .before .before .before .write in
-    write-replied (state (a .tag .now) (a .session)) _ _ _ _ _ _ _ _ (written .result) _ _ e (written .ensures) (c .before .before .reply-with2 .ensures)
+    let counted = c .before .before .before .before .before .before .before .before .before .before in
+    let read = counted .before in
+    let told = read .before .before in
+    let a = told .before .before .before .before .before .args in
+    let e = ap (commandAt (a .log .now) (a .at)) (told .next2 .given .1) in
+    let f = rw (← counted .count-of .ensures .0) at (e ∙ write-at _ _ _ _ (read .number322 .ensures)) in
+    write-replied (state (a .tag .now) (a .session)) _ (a .at + 5) (counted .count-of .result) _ _ _ _ _ (written .result) _ _
+    f (written .ensures) (c .before .before .reply-with2 .ensures)
 
 same-length-6 : tie.Need-same-length-6
 same-length-6 c = search needs
@@ -160,9 +203,12 @@ same-length-7 c = search needs
 
 returns-4 : tie.Need-returns-4
 returns-4 c =
-    let a = c .before .before .before .before .before .before .before .before .before .before .before .before .before .before .args in
-    let e = ap (commandAt (a .log .now) (a .at)) (c .before .before .before .before .before .before .before .before .before .next3 .given .1) in
-    answered (state (a .tag .now) (a .session)) _ _ _ _ _ _ _ _ _ e (unfold grant in refl) (c .before .before .before .before .before .before .advance .ensures) (c .before .before .reply-with3 .ensures)
+    let read = c .before .before .before .before .before .before .before .before in
+    let told = read .before in
+    let a = told .before .before .before .before .before .args in
+    let e = ap (commandAt (a .log .now) (a .at)) (told .enum-told2 .given .1) in
+    answered (state (a .tag .now) (a .session)) _ _ _ _ _ _ _ _ _ (e ∙ advance-at _ _ _ (read .number16 .ensures))
+    (unfold grant in refl) (c .before .before .before .before .before .before .advance .ensures) (c .before .before .reply-with3 .ensures)
 
 same-length-8 : tie.Need-same-length-8
 same-length-8 c = search needs
@@ -171,15 +217,19 @@ same-length-9 : tie.Need-same-length-9
 same-length-9 c = search needs
 
 returns-5 : tie.Need-returns-5
+unfolding bodyLength
 returns-5 c =
     let made = c .before .before .before .before .before .before in
-    let told = made .before .before .before .before .before in
+    let copied = made .before .before in
+    let read = copied .before .before in
+    let told = read .before in
     let start = told .before .before .before .before .before in
     let a = start .args in
-    let e = ap (commandAt (a .log .now) (a .at)) (told .next4 .given .1) in
-    let i = subst (λ x. a .at + lengthOf x ≤ length (a .log .now)) (told .next4 .given .1) (start .pre .1 .whole) in
-    insert-replied (state (a .tag .now) (a .session)) _ (a .at + 3) _ _ _ _ _ _ _ _ _ (omega arith) e (made .before .before .sixteen .ensures)
-    (made .insert .ensures) (c .before .before .reply-with4 .ensures)
+    let e = ap (commandAt (a .log .now) (a .at)) (told .enum-told3 .given .1) in
+    let l = long start _ (told .enum-told3 .given .1) in
+    insert-replied (state (a .tag .now) (a .session)) _ (a .at + 3) _ _ _ _ _ _ _ _ _ (omega (arith, l))
+    (e ∙ insert-at _ _ _ (read .number162 .ensures)) (copied .sixteen .ensures) (made .insert .ensures)
+    (c .before .before .reply-with4 .ensures)
 
 same-length-10 : tie.Need-same-length-10
 same-length-10 c = search needs
@@ -187,7 +237,7 @@ same-length-10 c = search needs
 returns-6 : tie.Need-returns-6
 returns-6 c =
     let a = c .before .before .before .before .before .before .before .before .before .args in
-    let e = ap (commandAt (a .log .now) (a .at)) (c .before .before .before .before .enum-told2 .given .1) in
+    let e = ap (commandAt (a .log .now) (a .at)) (c .before .before .before .before .enum-told4 .given .1) in
     unreadable-replied (state (a .tag .now) (a .session)) _ _ _ _ e (c .before .before .reply-with5 .ensures)
 
 pub reply-to-spec : {M : Type 1} → statement M
@@ -198,19 +248,28 @@ reply-to-spec =
     power-up-requires
     reply-with-requires
     enum-known-next
+    add-number32
+    number32-requires
     reply-read-requires
     enum-known-next-2
+    add-number32-2
+    number32-requires-2
     add-start
+    count-of-requires
     add-end
     sub-write
     part-write-start
     part-write-end
     write-requires
     reply-with-requires-2
-    enum-known-next-3
+    enum-told-2
+    add-number16
+    number16-requires
     advance-requires
     reply-with-requires-3
-    enum-known-next-4
+    enum-told-3
+    add-number16-2
+    number16-requires-2
     add-start-2
     add-end-2
     sub-sixteen
@@ -219,7 +278,7 @@ reply-to-spec =
     sixteen-requires
     insert-requires
     reply-with-requires-4
-    enum-told-2
+    enum-told-4
     reply-with-requires-5
     same-length
     returns

@@ -53,7 +53,8 @@ returns : tie.Need-returns Inv-loop μ-loop
 returns c =
     let loop = c .before .before .before .before .before .loop in
     let n = c .before .before .before .next-at in
-    let full = subst (λ k. length (loop .output) - loop .written < k) (c .before .before .room-of .ensures) (c .before .if1 .taken) in
+    let asked = c .before .before .room-of .ensures (c .before .before .before .before .before .before .before .before .before .before .before .args .log .now) (loop .read) in
+    let full = subst (λ k. length (loop .output) - loop .written < k) asked (c .before .if1 .taken) in
     stops-full _ _ _ _ _ _ _ _ (n .result) _ (loop .inv .0) (c .before .before .before .before .loop-test .taken)
     (n .ensures) full (c .stopped .ensures)
 
@@ -68,10 +69,11 @@ part-reply-to-end c = search needs
 
 reply-to-requires : tie.Need-reply-to-requires Inv-loop μ-loop
 reply-to-requires c κs =
-    let out = c .before .before .before .before .before .before .loop .output in
-    let l = mid-len (c .before .before .before .before .before .before .loop .written) (length out) out (omega arith) in
-    let r = c .before .before .before .room-of .ensures in
-    (c .before .before .before .before .before .before .loop .inv .0 .same, c .before .before .before .before .next-at .ensures, omega arith)
+    let loop = c .before .before .before .before .before .before .loop in
+    let out = loop .output in
+    let l = mid-len (loop .written) (length out) out (omega arith) in
+    let r = c .before .before .before .room-of .ensures (c .before .before .before .before .before .before .before .before .before .before .before .before .args .log .now) (loop .read) in
+    (loop .inv .0 .same, c .before .before .before .before .next-at .ensures, omega (arith, l, r))
 
 -- the places before that behind the call of `reply_to`: the call, what came next, the loop and the start
 abbrev called : tie.After-struct-known Inv-loop μ-loop → tie.After-reply-to Inv-loop μ-loop
@@ -88,10 +90,12 @@ start c = c .before .before .before .before .before .before .before .before .bef
 
 -- there was room, the reply is within it, and the output keeps its length
 room : (c : tie.After-struct-known Inv-loop μ-loop)
-    → roomOf (parsed c .next-at .result) ≤ length (looped c .loop .output) - looped c .loop .written
+    → roomAsked (commandAt (start c .args .log .now) (looped c .loop .read) (parsed c .next-at .result))
+    ≤ length (looped c .loop .output) - looped c .loop .written
 room c =
     let loop = looped c .loop in
-    subst (λ k. k ≤ length (loop .output) - loop .written) (c .before .before .before .before .before .before .before .before .before .before .room-of .ensures) (c .before .before .before .before .before .before .before .before .before .if1 .left)
+    let asked = c .before .before .before .before .before .before .before .before .before .before .room-of .ensures (start c .args .log .now) (loop .read) in
+    subst (λ k. k ≤ length (loop .output) - loop .written) asked (c .before .before .before .before .before .before .before .before .before .if1 .left)
 
 within : (c : tie.After-struct-known Inv-loop μ-loop)
     → looped c .loop .written + called c .reply-to .result .written ≤ length (looped c .loop .output)
