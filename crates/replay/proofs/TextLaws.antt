@@ -1,7 +1,7 @@
 -- The laws of the text that is printed: a part's replies stand in its buffer as lines, and the texts of the parts, one
 -- behind another, are the text of the whole. Assumes nothing.
 use Prim.Native.Nat.{ℕ, zero, suc, _-_, _≤_, _<_}
-use mathlib.Core.Path.{_≡_, refl, sym, ap, subst, _∙_}
+use mathlib.Core.Path.{_≡_, refl, sym, ap, _∙_}
 use mathlib.Core.Logic.{_≢_}
 use mathlib.Core.Bool.{Bool, true, false, cond}
 use mathlib.Core.List.{List, [], _++_, append-nil}
@@ -14,16 +14,15 @@ use Rattle.rules.specs.declared.Run.{Run}
 use Rattle.rules.specs.Bytes.{part, put}
 use Rattle.rules.specs.Answers.{codeOf}
 use Rattle.rules.specs.State.{State}
-use Rattle.rules.specs.Command.{Command, read, write, advance, insert, powerUp, done, refused, refusal, grant, reply, replyBy, after}
+use Rattle.rules.specs.Command.{refused, reply, after}
 use Rattle.rules.specs.Log.{Ran, Parsed, end, unreadable, _taking_then_, parsed, encoded, roomFor, stopped, onward, carriedOut, runLog}
 use Rattle.rules.specs.Runs.{result, runOver}
 use Rattle.rules.proofs.BytesLaws.{length-part, length-put, part-put-same}
-use Rattle.rules.proofs.GrantedRead.{granted-read}
 use Rattle.rules.proofs.Runs.{runs-leave}
-use Rattle.rules.proofs.RunLaws.{LogCount, OfLog, EachOf, each-of, run-reads, runs-continue}
+use Rattle.rules.proofs.RunLaws.{EachOf, each-of, run-reads, runs-continue, reply-readable}
 use Rattle.xxtea.specs.Block.{E}
 use Rattle.reply_lines.specs.Lines.{linesOf}
-use Rattle.reply_lines.proofs.Laws.{WholeReplies, lines-short, lines-append, none-whole, whole-append, done-whole, refused-whole, gives-whole}
+use Rattle.reply_lines.proofs.Laws.{WholeReplies, lines-short, lines-append, none-whole, whole-append, readable-whole}
 use Rattle.replay.specs.Text.{PartText, textOver, textsOver, TextInParts}
 
 -- ---- the text of a part
@@ -53,30 +52,13 @@ part-text s log out r t o text new n k e l f g =
 
 -- ---- the output of a run is whole replies
 
-granted-whole : (o : Option ℕ) (s : State) (c : Command) → grant s c ≡ done → WholeReplies (encoded (replyBy o s c))
-unfolding replyBy
-granted-whole none s c e = rw e done-whole
-granted-whole (some m) s c e = refused-whole m
-
-reply-whole : (s : State) (c : Command) → OfLog c → WholeReplies (encoded (reply E s c))
-unfolding reply replyBy grant
-reply-whole s (read a n room) h = by (refusal E s (read a n room)) refl
-  where
-    by : (o : Option ℕ) → refusal E s (read a n room) ≡ o → WholeReplies (encoded (replyBy o s (read a n room)))
-    by none e = gives-whole (part a n (s .tag)) (subst LogCount (sym (granted-read E s a n room e .whole)) h)
-    by (some m) e = refused-whole m
-reply-whole s (write a bs) h = granted-whole (refusal E s (write a bs)) s (write a bs) refl
-reply-whole s (advance k) h = granted-whole (refusal E s (advance k)) s (advance k) refl
-reply-whole s (insert k id) h = granted-whole (refusal E s (insert k id)) s (insert k id) refl
-reply-whole s powerUp h = granted-whole (refusal E s powerUp) s powerUp refl
-
 run-whole : (s : State) (p : Parsed) (room : ℕ) → EachOf p → WholeReplies (carriedOut E s p room .output)
 unfolding carriedOut stopped onward
 run-whole s end room h = none-whole
 run-whole s unreadable room h = by (leb 2 room)
   where
     by : (b : Bool) → WholeReplies (cond b (stopped (some 15) (encoded (refused 15)) s) (stopped (some 16) [] s) .output)
-    by true = refused-whole 15
+    by true = readable-whole (refused 15) tt
     by false = none-whole
 run-whole s (c taking n then p) room h =
     by (leb (roomFor c) room) (run-whole (after E s c) p (room - length (encoded (reply E s c))) (h .1))
@@ -86,7 +68,8 @@ run-whole s (c taking n then p) room h =
 
     by : (b : Bool) → WholeReplies (rest .output)
         → WholeReplies (cond b (onward n (encoded (reply E s c)) rest) (stopped (some 16) [] s) .output)
-    by true w = whole-append (encoded (reply E s c)) (rest .output) (reply-whole s c (h .0)) w
+    by true w =
+        whole-append (encoded (reply E s c)) (rest .output) (readable-whole (reply E s c) (reply-readable E s c (h .0))) w
     by false w = none-whole
 
 output-whole : (s : State) (log : List ℕ) (room : ℕ) → WholeReplies (runLog E s log room .output)

@@ -2,20 +2,18 @@
 use Prim.Native.Nat.{ℕ, zero, suc, _+_, _-_, _*_, _/_, _%_, _≤_, _<_, min}
 use mathlib.Core.Path.{_≡_, refl, sym, ap, _∙_}
 use mathlib.Core.Bool.{Bool, true, false}
-use mathlib.Core.Logic.{inl, inr}
 use mathlib.Core.List.{List, [], _∷_, _++_, append-assoc}
 use native.Mathlib.Omega.{arith}
 use native.Mathlib.Numerals.{add-one}
 use lib.ListN.{length, getD, drop, set, length-append, drop-of-length-le}
 use lib.Seq.{drop-cons}
 use lib.Dec.{leb}
-use borrow.Author.Tests.{ne-eqb, leb-true, leb-false}
+use borrow.Author.Tests.{leb-true, leb-false}
 use Rattle.rules.specs.Bytes.{part, put}
-use Rattle.rules.specs.Command.{done, gives, refused}
-use Rattle.rules.specs.Log.{readCode, encoded}
-use Rattle.rules.specs.Runs.{dataLength}
+use Rattle.rules.specs.Command.{Reply, done, gives, refused}
+use Rattle.rules.specs.Log.{countOf, dataLength, encoded}
 use Rattle.rules.proofs.BytesLaws.{length-part, length-put, put-append, put-none}
-use Rattle.rules.proofs.RunLaws.{LogCount}
+use Rattle.rules.proofs.RunLaws.{Readable, code-back}
 use Rattle.octets.proofs.Laws.{set-put}
 use Rattle.reply_lines.specs.Lines.{digitOf, pairOf, leftBehind, markOf, textOf, linesIn, linesOf, Stored}
 
@@ -190,33 +188,12 @@ unfolding leftAfter leftBehind
 data-whole [] = refl
 data-whole (b ∷ bs) = data-whole bs
 
--- the bytes behind the codes of the replies to a log
-record CodeLengths : Type 0 where
-  of-done : dataLength 0x50 ≡ 0
-  of-refused : dataLength 0x51 ≡ 1
-  of-gives : (n : ℕ) → LogCount n → dataLength (readCode n) ≡ n
-
-code-lengths : CodeLengths
-unfolding dataLength readCode
-code-lengths = record { of-done = refl; of-refused = refl; of-gives = of-gives }
-  where
-    of-gives : (n : ℕ) → LogCount n → dataLength (readCode n) ≡ n
-    of-gives n (inl e) = rw e refl
-    of-gives n (inr (inl e)) = rw e refl
-    of-gives n (inr (inr (inl e))) = rw e refl
-    of-gives n (inr (inr (inr e))) = rw e refl
-
-pub done-whole : WholeReplies (encoded done)
+-- a reply that can be read back is whole
+pub readable-whole : (r : Reply) → Readable r → WholeReplies (encoded r)
 unfolding encoded leftAfter leftBehind
-done-whole = code-lengths .of-done
-
-pub refused-whole : (n : ℕ) → WholeReplies (encoded (refused n))
-unfolding encoded leftAfter leftBehind
-refused-whole n = ap (λ k. leftAfter k (n ∷ [])) (code-lengths .of-refused)
-
-pub gives-whole : (bs : List ℕ) → LogCount (length bs) → WholeReplies (encoded (gives bs))
-unfolding encoded leftAfter leftBehind
-gives-whole bs h = ap (λ n. leftAfter n bs) (code-lengths .of-gives (length bs) h) ∙ data-whole bs
+readable-whole done h = (unfold dataLength countOf in refl)
+readable-whole (refused n) h = (unfold dataLength countOf in refl)
+readable-whole (gives bs) h = ap (λ n. leftAfter n bs) (code-back (length bs) h .count) ∙ data-whole bs
 
 -- ---- codes and what is left behind a byte
 
@@ -229,8 +206,3 @@ pub left-data : (left b : ℕ) → (left ≡ 0 → ⊥) → left - 1 ≡ leftBeh
 unfolding leftBehind
 left-data zero b h = absurd (h refl)
 left-data (suc left) b h = omega arith
-
-pub no-code : (b : ℕ) → (b ≡ 0x41 → ⊥) → (b ≡ 0x42 → ⊥) → (b ≡ 0x43 → ⊥) → (b ≡ 0x44 → ⊥) → (b ≡ 0x51 → ⊥)
-    → 0 ≡ dataLength b
-unfolding dataLength
-no-code b h i j k l = rw (ne-eqb b 0x41 h, ne-eqb b 0x42 i, ne-eqb b 0x43 j, ne-eqb b 0x44 k, ne-eqb b 0x51 l)

@@ -7,7 +7,7 @@ use mathlib.Core.List.{List, [], _∷_, _++_}
 use lib.ListN.{length}
 use lib.Dec.{ltb}
 use Rattle.rules.specs.Bytes.{put}
-use Rattle.rules.specs.Runs.{dataLength}
+use Rattle.rules.specs.Log.{dataLength}
 
 -- the character of a digit below 16: `0` is 48 and `A` is 65
 unfoldable pub digitOf : ℕ → ℕ

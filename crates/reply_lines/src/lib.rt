@@ -4,7 +4,7 @@ ghost use Prim.Native.Nat.{_<_};
 ghost use mathlib.Core.List.{[], _∷_};
 ghost use lib.ListN.{length};
 ghost use Rattle.rules.specs.Bytes.{part, put};
-ghost use Rattle.rules.specs.Runs.{dataLength};
+ghost use Rattle.rules.specs.Log.{dataLength};
 ghost use Rattle.reply_lines.specs.Lines.{Stored, digitOf, leftBehind, linesOf, markOf, pairOf, textOf};
 
 fn digit(n: u8) -> u8
@@ -14,18 +14,17 @@ fn digit(n: u8) -> u8
     if n < 10 { b'0' + n } else { b'A' - 10 + n }
 }
 
-// The bytes that follow a reply's code: one for a refusal's number.
+// The bytes that follow a reply's code: one for a refusal's number, and for a read's code the count of its digit.
 fn data_length(code: u8) -> usize
     ensures { λ r. ⌜ r ≡ dataLength code ⌝ }
 {
-    match code {
-        0x41 => 1,
-        0x42 => 8,
-        0x43 => 16,
-        0x44 => 32,
-        0x51 => 1,
-        _ => 0,
+    if code == 0x51 {
+        return 1;
     }
+    if code < 0x40 {
+        return 0;
+    }
+    command_log::count_of(code - 0x40)
 }
 
 // How many bytes still belong to the reply behind this one.
