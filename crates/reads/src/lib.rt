@@ -12,7 +12,7 @@ ghost use Rattle.rules.specs.Hosts.{hosts};
 ghost use Rattle.rules.specs.State.{state};
 ghost use Rattle.rules.specs.Answers.{refusalOf};
 ghost use Rattle.rules.specs.Refusals.{lowest, segmentReadChecks, unitReadChecks, readChecks};
-ghost use Rattle.rules.specs.Command.{refusal, reply, filled};
+ghost use Rattle.rules.specs.Command.{refusal, readInto};
 ghost use Rattle.rules.specs.Command as command;
 ghost use Rattle.rules.specs.Calls.{CarriedOut, outcome};
 ghost use Rattle.xxtea.specs.Block.{E};
@@ -97,7 +97,7 @@ fn judge_read(tag: &[u8], session: Session, at: usize, n: usize, room: usize) ->
 fn read_sound(tag: &[u8], session: Session, at: usize, n: usize, output: &mut [u8]) -> Answer
     requires { ⌜ sound (now tag) ≡ true ⌝ }
     ensures { λ r. ⌜ refusalOf r ≡ refusal E (state (now (tag .entry)) session) (command.read at n (length (now (output .entry)))) ⌝ }
-    ensures { λ _. ⌜ now (output .exit) ≡ filled (reply E (state (now (tag .entry)) session) (command.read at n (length (now (output .entry))))) (now (output .entry)) ⌝ }
+    ensures { λ _. ⌜ now (output .exit) ≡ readInto E (state (now (tag .entry)) session) at n (now (output .entry)) ⌝ }
 {
     let answer = judge_read(tag, session, at, n, output.len());
     if let Answer::Done = answer {
@@ -118,7 +118,7 @@ pub fn read(
 ) -> Answer
     requires { ⌜ «is_sound» ≡ sound (now tag) ⌝ }
     ensures { λ r. ⌜ CarriedOut E (state (now (tag .entry)) session) (command.read address count (length (now (output .entry)))) (now (tag .entry)) (outcome r session) ⌝ }
-    ensures { λ _. ⌜ now (output .exit) ≡ filled (reply E (state (now (tag .entry)) session) (command.read address count (length (now (output .entry))))) (now (output .entry)) ⌝ }
+    ensures { λ _. ⌜ now (output .exit) ≡ readInto E (state (now (tag .entry)) session) address count (now (output .entry)) ⌝ }
 {
     if !is_sound {
         return Answer::Refused(Refusal::Unsound);

@@ -15,7 +15,7 @@ use Rattle.rules.specs.Bytes.{part, put}
 use Rattle.rules.specs.Map.{flagAt}
 use Rattle.rules.specs.State.{Cipher, State, state, poweredUp}
 use Rattle.rules.specs.Answers.{numberOf, refusalOf}
-use Rattle.rules.specs.Command.{Command, Reply, done, gives, refused, read, write, advance, insert, powerUp, refusal, reply, after, filled}
+use Rattle.rules.specs.Command.{Command, Reply, done, gives, refused, read, write, advance, insert, powerUp, refusal, after, readInto}
 use Rattle.rules.specs.Demand3.{LockedCounter, slot, valueAt, grants, Entry, withCopies, withoutCopies, ownReplies, copyReplies, AllRefused, CopiesOfGranted, MayChangePlaces}
 use Rattle.rules.specs.Run.{final, replies}
 
@@ -44,7 +44,7 @@ RefusedLeaves E =
 abbrev pub RefusedReads : Cipher → Type 0
 RefusedReads E =
     (s : State) (a n : ℕ) (out : List ℕ) (o : Outcome) (r : Refusal) → CarriedOut E s (read a n (length out)) (s .tag) o
-    → o .answer ≡ Refused r → filled (reply E s (read a n (length out))) out ≡ out
+    → o .answer ≡ Refused r → readInto E s a n out ≡ out
 
 -- ---- calls, one after another
 
@@ -56,7 +56,7 @@ replyOf (Refused r) q = refused (numberOf r)
 -- a call on the state s: its command, its reply and the state that it leaves
 pub data Call (E : Cipher) (s : State) : Command → Reply → State → Type 0 where
   reads : (a n : ℕ) (out left : List ℕ) (o : Outcome) → CarriedOut E s (read a n (length out)) (s .tag) o
-      → left ≡ filled (reply E s (read a n (length out))) out
+      → left ≡ readInto E s a n out
       → Call E s (read a n (length out)) (replyOf (o .answer) (gives (part 0 n left))) (state (s .tag) (o .session))
   writes : (a : ℕ) (bs t : List ℕ) (o : Outcome) → CarriedOut E s (write a bs) t o
       → Call E s (write a bs) (replyOf (o .answer) done) (state t (o .session))

@@ -114,3 +114,7 @@ unfoldable pub filled : Reply → List ℕ → List ℕ
 filled done out = out
 filled (gives bs) out = put 0 bs out
 filled (refused n) out = out
+
+-- what a read of n bytes at a leaves in the output `out`
+abbrev pub readInto : Cipher → State → (a n : ℕ) (out : List ℕ) → List ℕ
+readInto E s a n out = filled (reply E s (read a n (length out))) out

@@ -1,9 +1,9 @@
 -- Document 02, L4: what is claimed of insertions and of the keys that hosts share. Assumes nothing.
-use Prim.Native.Nat.{ℕ, _+_, _-_, _*_, _≤_, _<_}
+use Prim.Native.Nat.{ℕ, _+_, _-_, _≤_, _<_}
 use mathlib.Core.Path.{_≡_}
 use mathlib.Core.Logic.{_≢_}
 use mathlib.Core.Bool.{true, false}
-use mathlib.Core.List.{List, [], _∷_}
+use mathlib.Core.List.{List}
 use lib.ListN.{length, replicate}
 use Rattle.rules.specs.declared.KeyStage.the-variants.{Inserted}
 use Rattle.rules.specs.declared.Model.the-variants.{SharedKey}

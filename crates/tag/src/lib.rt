@@ -6,7 +6,7 @@ ghost use Prim.Native.Nat.{_+_, _≤_};
 ghost use lib.ListN.{length};
 ghost use Rattle.rules.specs.Map.{sound};
 ghost use Rattle.rules.specs.State.{state, poweredUp};
-ghost use Rattle.rules.specs.Command.{reply, filled};
+ghost use Rattle.rules.specs.Command.{reply, readInto};
 ghost use Rattle.rules.specs.Command as command;
 ghost use Rattle.rules.specs.Calls.{CarriedOut};
 ghost use Rattle.rules.specs.Log.{countOf};
@@ -43,7 +43,7 @@ pub fn read(
     output: &mut [u8],
 ) -> Outcome
     ensures { λ r. ⌜ CarriedOut E (state (now (tag .entry)) session) (command.read address count (length (now (output .entry)))) (now (tag .entry)) r ⌝ }
-    ensures { λ _. ⌜ now (output .exit) ≡ filled (reply E (state (now (tag .entry)) session) (command.read address count (length (now (output .entry))))) (now (output .entry)) ⌝ }
+    ensures { λ _. ⌜ now (output .exit) ≡ readInto E (state (now (tag .entry)) session) address count (now (output .entry)) ⌝ }
 {
     let is_sound = layout::sound(tag);
     let answer = reads::read(tag, is_sound, session, address, count, output);

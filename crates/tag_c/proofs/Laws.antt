@@ -15,7 +15,7 @@ use Rattle.rules.specs.Answers.{refusalOf, stopNumber, codeOf}
 use Rattle.rules.specs.Command.{Command, insert, refusal, after, afterBy, newSession}
 use Rattle.rules.specs.Calls.{CarriedOut}
 use Rattle.rules.specs.Runs.{result, runOver}
-use Rattle.rules.specs.CCalls.{sessionOf, sessionBytes, Called, RunCalled, Fits}
+use Rattle.rules.specs.CCalls.{sessionOf, sessionBytes, Called, RunReturned, RunLeft, runFrom, Fits}
 use Rattle.rules.proofs.BytesLaws.{put-append, put-none, length-bytesOf}
 use Rattle.rules.proofs.CCalls.{nothing-lost, session-fits}
 use Rattle.octets.proofs.Laws.{block-whole, put-whole}
@@ -108,17 +108,16 @@ keeps-session t u b d v c n o l f e h k =
 
 pub keeps-run : (t u b d log out left : List ℕ) (v : Session) (n : ℕ) (r : Run) → Lent b → v ≡ sessionOf b
     → result r u left ≡ runOver E (state t v) log out → n ≡ codeOf (stopNumber (r .stop)) → d ≡ sessionBytes (r .session)
-    → RunCalled E (state t (sessionOf b)) log out n (r .read) (r .written) u d left
+    → RunReturned (runFrom E t b log out) n (r .read) (r .written) × RunLeft (runFrom E t b log out) u d left
 keeps-run t u b d log out left v n r l f h e k =
     let start = subst Fits (sym f) (nothing-lost .bytes-fit b (l .size) (l .bytes)) in
     let same : r .session ≡ runOver E (state t v) log out .session = ap (λ x. x .session) h in
     let end = subst Fits (sym same) (session-fits E (state t v) .after-run start log out) in
-    subst (λ x. RunCalled E (state t x) log out n (r .read) (r .written) u d left) f
-    (record {
-      stopped = e ∙ ap (λ x. codeOf (x .stop)) h;
-      read = ap (λ x. x .read) h;
-      written = ap (λ x. x .written) h;
-      left = ap (state u) (kept-session d (r .session) end k) ∙ ap (λ x. state (x .tag) (x .session)) h;
-      kept = k ∙ ap sessionBytes same;
-      output = ap (λ x. x .output) h;
-    })
+    subst (λ x. RunReturned (runOver E (state t x) log out) n (r .read) (r .written) × RunLeft (runOver E (state t x) log out) u d left) f (
+      record { stopped = e ∙ ap (λ x. codeOf (x .stop)) h; read = ap (λ x. x .read) h; written = ap (λ x. x .written) h },
+      record {
+        left = ap (state u) (kept-session d (r .session) end k) ∙ ap (λ x. state (x .tag) (x .session)) h;
+        kept = k ∙ ap sessionBytes same;
+        output = ap (λ x. x .output) h;
+      },
+    )

@@ -3,11 +3,11 @@
 // the contracts cite are in `rules`, CCalls.antt: with the same rules and cipher as the contracts of `tag`.
 ghost use mathlib.Core.Path.{_≡_};
 ghost use lib.ListN.{length};
-ghost use Rattle.rules.specs.State.{state, poweredUp};
+ghost use Rattle.rules.specs.State.{poweredUp};
 ghost use Rattle.rules.specs.Answers.{refusalOf, stopNumber, codeOf};
-ghost use Rattle.rules.specs.Command.{reply, filled};
+ghost use Rattle.rules.specs.Command.{readInto};
 ghost use Rattle.rules.specs.Command as command;
-ghost use Rattle.rules.specs.CCalls.{sessionOf, sessionBytes, Called, RunCalled};
+ghost use Rattle.rules.specs.CCalls.{sessionOf, stateOf, sessionBytes, Called, RunReturned, RunLeft, runFrom};
 ghost use Rattle.xxtea.specs.Block.{E};
 ghost use Rattle.tag_c.specs.Lent.{Lent};
 use rules::Answer;
@@ -78,8 +78,8 @@ pub extern "C" fn dringoleth_read(
     count: usize,
     output: &mut [u8],
 ) -> u8
-    ensures { λ r. ⌜ Called E (state (now (tag .entry)) (sessionOf (now (session .entry)))) (command.read address count (length (now (output .entry)))) r (now (tag .entry)) (now (session .entry)) ⌝ }
-    ensures { λ _. ⌜ now (output .exit) ≡ filled (reply E (state (now (tag .entry)) (sessionOf (now (session .entry)))) (command.read address count (length (now (output .entry))))) (now (output .entry)) ⌝ }
+    ensures { λ r. ⌜ Called E (stateOf (now (tag .entry)) (now (session .entry))) (command.read address count (length (now (output .entry)))) r (now (tag .entry)) (now (session .entry)) ⌝ }
+    ensures { λ _. ⌜ now (output .exit) ≡ readInto E (stateOf (now (tag .entry)) (now (session .entry))) address count (now (output .entry)) ⌝ }
 {
     let before = session_of(session);
     let outcome = tag::read(tag, before, address, count, output);
@@ -94,7 +94,7 @@ pub extern "C" fn dringoleth_write(
     address: usize,
     data: &[u8],
 ) -> u8
-    ensures { λ r. ⌜ Called E (state (now (tag .entry)) (sessionOf (now (session .entry)))) (command.write address (now («data» .entry))) r (now (tag .exit)) (now (session .exit)) ⌝ }
+    ensures { λ r. ⌜ Called E (stateOf (now (tag .entry)) (now (session .entry))) (command.write address (now («data» .entry))) r (now (tag .exit)) (now (session .exit)) ⌝ }
 {
     let before = session_of(session);
     let outcome = tag::write(tag, before, address, data);
@@ -106,7 +106,7 @@ pub extern "C" fn dringoleth_write(
 
 #[no_mangle]
 pub extern "C" fn dringoleth_advance(tag: &mut [u8], session: &[u8; 54], segment: usize) -> u8
-    ensures { λ r. ⌜ Called E (state (now (tag .entry)) (sessionOf (now (session .entry)))) (command.advance segment) r (now (tag .exit)) (now (session .entry)) ⌝ }
+    ensures { λ r. ⌜ Called E (stateOf (now (tag .entry)) (now (session .entry))) (command.advance segment) r (now (tag .exit)) (now (session .entry)) ⌝ }
 {
     let before = session_of(session);
     let outcome = tag::advance(tag, before, segment);
@@ -121,7 +121,7 @@ pub extern "C" fn dringoleth_insert(
     segment: usize,
     id: &[u8; 16],
 ) -> u8
-    ensures { λ r. ⌜ Called E (state (now (tag .entry)) (sessionOf (now (session .entry)))) (command.insert segment (now (id .entry))) r (now (tag .exit)) (now (session .entry)) ⌝ }
+    ensures { λ r. ⌜ Called E (stateOf (now (tag .entry)) (now (session .entry))) (command.insert segment (now (id .entry))) r (now (tag .exit)) (now (session .entry)) ⌝ }
 {
     let before = session_of(session);
     let host = octets::sixteen(id);
@@ -139,7 +139,8 @@ pub extern "C" fn dringoleth_run(
     bytes_read: &mut usize,
     bytes_written: &mut usize,
 ) -> u8
-    ensures { λ r. ⌜ RunCalled E (state (now (tag .entry)) (sessionOf (now (session .entry)))) (now (log .entry)) (now (output .entry)) r (now («bytes_read» .exit)) (now («bytes_written» .exit)) (now (tag .exit)) (now (session .exit)) (now (output .exit)) ⌝ }
+    ensures { λ r. ⌜ RunReturned (runFrom E (now (tag .entry)) (now (session .entry)) (now (log .entry)) (now (output .entry))) r (now («bytes_read» .exit)) (now («bytes_written» .exit)) ⌝ }
+    ensures { λ _. ⌜ RunLeft (runFrom E (now (tag .entry)) (now (session .entry)) (now (log .entry)) (now (output .entry))) (now (tag .exit)) (now (session .exit)) (now (output .exit)) ⌝ }
 {
     let before = session_of(session);
     let run = tag::run(tag, before, log, output);
