@@ -11,7 +11,10 @@ ghost use Rattle.layout.specs.Found.{found, foundIf};
 use rules::Place;
 use rules::Register;
 
-// The address of the usage flag.
+// The address of the roll-back counter.
+pub const COUNTER: usize = 4;
+
+// The address of the usage flag, where the counter ends.
 pub const FLAG: usize = 12;
 
 // The address of owner PIN 0, where the header ends.

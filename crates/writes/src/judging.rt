@@ -1,4 +1,4 @@
-// The judges of writes: one for each place, and for each what it is to come to. They touch nothing.
+// The judges of writes, a function for each place, and the verdict that they come to. They touch nothing.
 ghost use mathlib.Core.Path.{_≡_};
 ghost use mathlib.Core.Bool.{true};
 ghost use mathlib.Core.Option.{some};
@@ -66,10 +66,10 @@ fn judge_header(tag: &[u8], at: usize, data: &[u8]) -> Answer
     requires { ⌜ 16 ≤ length (now tag) ⌝ }
     ensures { λ r. ⌜ refusalOf r ≡ lowest (headerWriteChecks (now (tag .entry)) at (now («data» .entry))) ⌝ }
 {
-    if !((at == 4) & (data.len() == 8)) {
+    if !((at == layout::COUNTER) & (data.len() == 8)) {
         return Answer::Refused(Refusal::NeverTaken);
     }
-    judge_value(&tag[4..12], data)
+    judge_value(&tag[layout::COUNTER..layout::FLAG], data)
 }
 
 // What a counter segment answers to data for its old bytes: one aligned slot first, then the value.
@@ -141,7 +141,6 @@ fn judge_segment_at(tag: &[u8], session: Session, k: usize, at: usize, data: &[u
     requires { ⌜ (segmentAt (segments (now tag)) k ≤ at) × (at + length (now «data») ≤ length (now tag)) × (unitAt k + 32 ≤ length (now tag)) ⌝ }
     ensures { λ r. ⌜ JudgedIn (state (now (tag .entry)) session) (Segment k) at (now («data» .entry)) r ⌝ }
 {
-    let past = at + data.len();
     let name = session.name;
     judge_segment_write(
         layout::unit_of(tag, k),
@@ -149,7 +148,7 @@ fn judge_segment_at(tag: &[u8], session: Session, k: usize, at: usize, data: &[u
         &name,
         k,
         at,
-        &tag[at..past],
+        &tag[at..at + data.len()],
         data,
     )
 }

@@ -11,14 +11,14 @@ use borrow.Author.Needs.{needs}
 use Rattle.writes.proofs.judging.judge_segment_at.Statement.{statement}
 use Rattle.writes.proofs.judging.judge_segment_at.Tie as tie
 
-add-past : tie.Need-add-past
-add-past c = search needs
-
 unit-of-requires : tie.Need-unit-of-requires
 unit-of-requires c κs = search needs
 
 slice-aggregate-judge-segment-write : tie.Need-slice-aggregate-judge-segment-write
 slice-aggregate-judge-segment-write c = search needs
+
+add-judge-segment-write : tie.Need-add-judge-segment-write
+add-judge-segment-write c = search needs
 
 sub-judge-segment-write : tie.Need-sub-judge-segment-write
 sub-judge-segment-write c = search needs
@@ -48,9 +48,9 @@ pub judge-segment-at-spec : {M : Type 1} → statement M
 judge-segment-at-spec =
     tie.close
     (tie.spec
-    add-past
     unit-of-requires
     slice-aggregate-judge-segment-write
+    add-judge-segment-write
     sub-judge-segment-write
     part-judge-segment-write-start
     part-judge-segment-write-end
