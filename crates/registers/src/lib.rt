@@ -25,7 +25,7 @@ fn response(tag: &[u8], key: usize) -> [u8; 16]
 {
     let end = key + 16;
     let mut block = [0u8; 16];
-    octets::store_at(&mut block, 8, &tag[4..12]);
+    octets::store_at(&mut block, 8, &tag[layout::COUNTER..layout::FLAG]);
     xxtea::encipher_block(octets::sixteen(&tag[key..end]), block)
 }
 
