@@ -82,12 +82,12 @@ module _ (t : List ℕ) (k : ℕ) (id : List ℕ) (insertable : Insertable t k i
       ∙ apply-part (unitAt k) 32 (pairsOf t k id) t (pairs-off t k id (unitAt k) 32 w f (omega arith) (λ l o. omega arith))
 
   -- the tag after the pairs, and after the row; the unit is as it was
-  pub inserted-all : (x : ℕ) (t₁ t₂ ys : List ℕ) → x ≡ length (hosts t)
+  inserted-at : (x : ℕ) (t₁ t₂ ys : List ℕ) → x ≡ length (hosts t)
       → t₁ ≡ allPaired t x k id → t₂ ≡ rowStored t₁ x k id → length t₂ ≡ length t
       → ys ≡ put 0 (inserted (midOf (unitAt k) (unitAt k + 32 - unitAt k) t₂)) (midOf (unitAt k) (unitAt k + 32 - unitAt k) t₂)
       → putMid (unitAt k) (unitAt k + 32 - unitAt k) t₂ ys ≡ apply (insertStores t k id) t
   unfolding insertStores rowStore apply
-  inserted-all x t₁ t₂ ys q e₁ e₂ l e₃ =
+  inserted-at x t₁ t₂ ys q e₁ e₂ l e₃ =
       let a = unitAt k in
       let u = unitBytes t k in
       let first : t₁ ≡ apply (pairsOf t k id) t = rw q at e₁ in
@@ -101,3 +101,10 @@ module _ (t : List ℕ) (k : ℕ) (id : List ℕ) (insertable : Insertable t k i
       (e₃ ∙ ap (λ v. put 0 (inserted v) v) (part-lent a 32 t₂) ∙ ap (λ v. put 0 (inserted v) (part a 32 t₂)) same)
       (length-put 0 ms (part a 32 t₂) ∙ length-lent a 32 t₂ inside) inside in
       back ∙ put-part a 32 ms t₂ (omega (arith, two)) ∙ ap (put a ms) second ∙ sym (apply-append (pairsOf t k id) _ t)
+
+  -- the unit stands at `a`
+  pub inserted-all : (x a : ℕ) (t₁ t₂ ys : List ℕ) → x ≡ length (hosts t)
+      → t₁ ≡ allPaired t x k id → t₂ ≡ rowStored t₁ x k id → length t₂ ≡ length t → a ≡ unitAt k
+      → ys ≡ put 0 (inserted (midOf a (a + 32 - a) t₂)) (midOf a (a + 32 - a) t₂)
+      → putMid a (a + 32 - a) t₂ ys ≡ apply (insertStores t k id) t
+  inserted-all x a t₁ t₂ ys q e₁ e₂ l d e₃ = rw d (inserted-at x t₁ t₂ ys q e₁ e₂ l (rw d at e₃))

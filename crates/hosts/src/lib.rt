@@ -293,7 +293,7 @@ pub fn insert(tag: &mut [u8], k: usize, id: [u8; 16])
     let base = layout::segments_at(layout::segments(tag));
     join_all(tag, base, x, k, id);
     store_row(tag, x, k, id);
-    let start = layout::UNITS + 32 * k;
+    let start = layout::unit_at(k);
     let end = start + 32;
     units::insert(&mut tag[start..end]);
 }

@@ -8,8 +8,8 @@ use borrow.Author.Needs.{needs}
 use Rattle.hosts.proofs.insert.Statement.{statement}
 use Rattle.hosts.proofs.insert.Tie as tie
 
-abbrev start : tie.After-slice-known3 → tie.Start
-start c = c .before .before .before .before .before .before .before .before .before .before .before .before .before .before .before
+abbrev start : tie.After-unit-at → tie.Start
+start c = c .before .before .before .before .before .before .before .before .before .before .before .before .before .before .before .before
 
 readers-requires : tie.Need-readers-requires
 readers-requires c κs = insert-sizes _ _ _ (c .before .before .pre) .long
@@ -41,14 +41,13 @@ store-row-requires c κs =
     let l = c .before .before .before .join-all .kept .0 in
     (omega (arith, z .long, l), omega (arith, z .few, x), z .small, z .id-long)
 
-mul-start : tie.Need-mul-start
-mul-start c = omega (arith, insert-sizes _ _ _ (start c .pre) .small)
-
-add-start : tie.Need-add-start
-add-start c = omega (arith, insert-sizes _ _ _ (start c .pre) .small)
+unit-at-requires : tie.Need-unit-at-requires
+unit-at-requires c κs =
+    let s = c .before .before .before .before .before .before .before .before .before .before .before .before .before .before .before in
+    omega (arith, insert-sizes _ _ _ (s .pre) .small)
 
 add-end : tie.Need-add-end
-add-end c = omega (arith, insert-sizes _ _ _ (start c .pre) .small)
+add-end c = omega (arith, c .unit-at .ensures, insert-sizes _ _ _ (start c .pre) .small)
 
 sub-insert : tie.Need-sub-insert
 sub-insert c = search needs
@@ -58,10 +57,10 @@ part-insert-start c = search needs
 
 part-insert-end : tie.Need-part-insert-end
 part-insert-end c =
-    let row = c .before .before in
+    let row = c .before .before .before in
     let l = row .store-row .kept .0 in
     let m = row .before .before .before .before .join-all .kept .0 in
-    omega (arith, insert-sizes _ _ _ (start c .pre) .inside, l, m)
+    omega (arith, insert-sizes _ _ _ (start c .pre) .inside, c .unit-at .ensures, l, m)
 
 insert-requires : tie.Need-insert-requires
 insert-requires c κs = search needs
@@ -71,17 +70,17 @@ same-length c = search needs
 
 returns : tie.Need-returns
 returns c =
-    let s = start (c .before .before .before .before) in
+    let at = c .before .before .before .before in
+    let s = start at in
     let a = s .args in
-    let unit = c .before .before in
-    let row = unit .before .before .before .before in
+    let row = at .before .before .before in
     let pairs = row .before .before .before .before in
     let count = pairs .before .before .before .before .before in
     let x = rows-counted _ _ _ (count .before .readers .ensures) (count .count .ensures) in
     let l = row .store-row .kept .0 in
     let m = pairs .join-all .kept .0 in
-    inserted-all (a .tag .now) (a .k) (a .id) (s .pre) _ _ _ _ x (pairs .join-all .ensures) (row .store-row .ensures) (l ∙ m)
-    (unit .insert .ensures)
+    inserted-all (a .tag .now) (a .k) (a .id) (s .pre) _ _ _ _ _ x (pairs .join-all .ensures) (row .store-row .ensures) (l ∙ m)
+    (at .unit-at .ensures) (c .before .before .insert .ensures)
 
 pub insert-spec : {M : Type 1} → statement M
 insert-spec =
@@ -93,8 +92,7 @@ insert-spec =
     segments-at-requires
     join-all-requires
     store-row-requires
-    mul-start
-    add-start
+    unit-at-requires
     add-end
     sub-insert
     part-insert-start
