@@ -1,5 +1,5 @@
 -- The unit of a segment of model 4: its fields at either stage, and what an insertion makes of it.
-use Prim.Native.Nat.{ℕ, zero, suc, _+_, _≤_}
+use Prim.Native.Nat.{ℕ, zero, suc, _≤_}
 use mathlib.Core.Path.{_≡_, refl, sym, ap, ap₂, _∙_}
 use mathlib.Core.Logic.{_≢_, _⊎_, inl, inr}
 use mathlib.Core.Bool.{Bool, true, false, _&&_, _||_, not, cond}
@@ -57,16 +57,6 @@ shared-fields (suc (suc (suc (suc zero)))) g rd wr e f = (refl, by g rd wr e)
         true-false (sym h ∙ z)
 shared-fields (suc (suc (suc (suc (suc n))))) g rd wr e f = true-false (sym e)
 
-pub filling-fields : (m g : ℕ) (rd wr : Bool) → modelFits m g rd wr ≡ true → modelOf m g ≡ SharedKey Filling
-    → (m ≡ 4) × (g ≡ 0) × (rd ≡ false) × (wr ≡ true)
-unfolding modelOf keyStageOf isSharedKey
-filling-fields m g rd wr e f =
-    let x = shared-fields m g rd wr e (ap isSharedKey f) in by (x .0) (x .1)
-  where
-    by : m ≡ 4 → Stages g rd wr → (m ≡ 4) × (g ≡ 0) × (rd ≡ false) × (wr ≡ true)
-    by q (inl y) = (q, y .0, y .1, y .2)
-    by q (inr y) = stages-differ (sym f ∙ ap₂ modelOf q (y .0))
-
 inserted-fields : (m g : ℕ) (rd wr : Bool) → modelFits m g rd wr ≡ true → modelOf m g ≡ SharedKey Inserted
     → (rd ≡ true) × (wr ≡ false)
 unfolding modelOf keyStageOf isSharedKey
@@ -117,13 +107,8 @@ module _ (u : List ℕ) (long : length u ≡ 32) (e : wellFormed u ≡ true) (f 
   abbrev after-it : List ℕ
   after-it = put 0 (inserted u) u
 
-  fields : (modelled u ≡ true) × (bit 7 (byte 0 u) ≡ false) × (bit 5 (byte 0 u) ≡ true) × (byte 1 u ≡ 4)
-  fields =
-      let x = modelled-fits u (SharedKey Filling) e f (not-default Filling) in
-      let y = filling-fields _ _ _ _ (x .1) (x .2) in
-      let m = y .0 in
-      let g = y .1 in
-      (x .0, (unfold unitOf in y .2), (unfold unitOf in y .3), omega (arith, m, g))
+  is-modelled : modelled u ≡ true
+  is-modelled = modelled-fits u (SharedKey Filling) e f (not-default Filling) .0
 
   two-bytes : (byte 0 after-it ≡ readOnly (byte 0 u)) × (byte 1 after-it ≡ 0x14)
   two-bytes = bytes u long
@@ -162,7 +147,7 @@ module _ (u : List ℕ) (long : length u ≡ 32) (e : wellFormed u ≡ true) (f 
           || modelFits (modelNo after-it) (stageNo after-it) (bit 7 (byte 0 after-it)) (bit 5 (byte 0 after-it)))
           ≡ true
       last =
-          let m : modelled after-it ≡ true = control-bit 7 ∙ fields .0 in
+          let m : modelled after-it ≡ true = control-bit 7 ∙ is-modelled in
           let r : bit 7 (byte 0 after-it) ≡ true = control-bit 0 in
           let v : bit 5 (byte 0 after-it) ≡ false = control-bit 2 in
           rw (two-bytes .1, m, r, v) (unfold modelFits in refl)
@@ -170,7 +155,7 @@ module _ (u : List ℕ) (long : length u ≡ 32) (e : wellFormed u ≡ true) (f 
   inserted-model : unitOf after-it .model ≡ SharedKey Inserted
   unfolding unitOf
   inserted-model =
-      let m : modelled after-it ≡ true = control-bit 7 ∙ fields .0 in
+      let m : modelled after-it ≡ true = control-bit 7 ∙ is-modelled in
       rw (two-bytes .1, m) (unfold modelOf keyStageOf in refl)
 
   pub inserted-unit : UnitInserted u after-it

@@ -1,12 +1,10 @@
 -- What a model's own move does to the bits of its unit; and what power-up does to the session.
 use Prim.Native.Nat.{ℕ, _+_, _*_, _/_, _%_, _^_, _<_}
-use mathlib.Core.Path.{_≡_, refl, sym, ap, _∙_}
-use mathlib.Core.Logic.{_≢_}
+use mathlib.Core.Path.{_≡_, refl, ap, _∙_}
 use mathlib.Core.Bool.{true, false}
-use mathlib.Core.List.{[], _∷_}
 use native.Mathlib.Omega.{arith}
 use native.Mathlib.Nat.{mod-lt}
-use borrow.Author.Tests.{eqb-true, eqb-false, eq-eqb}
+use borrow.Author.Tests.{eq-eqb}
 use Rattle.rules.specs.Units.{bit, modelOf, stageOf, keyStageOf}
 use Rattle.rules.specs.State.{Cipher, State, poweredUp}
 use Rattle.rules.specs.Refusals.{lowest}
@@ -19,14 +17,6 @@ use Rattle.rules.specs.Claims.{bits, readOnlyBits, MovesExact, PowerUpCl
 bit-same : (i b c : ℕ) → b / 2 ^ i % 2 ≡ c / 2 ^ i % 2 → bit i b ≡ bit i c
 unfolding bit
 bit-same i b c e = rw e
-
-pub bit-set : (i b : ℕ) → bit i b ≡ true → b / 2 ^ i % 2 ≡ 1
-unfolding bit
-bit-set i b e = eqb-true _ _ e
-
-pub bit-clear : (i b : ℕ) → bit i b ≡ false → b / 2 ^ i % 2 ≡ 0
-unfolding bit
-bit-clear i b e = let z : b / 2 ^ i % 2 ≢ 1 = eqb-false _ _ e in let y : b / 2 ^ i % 2 < 2 = mod-lt _ (omega arith) in omega arith
 
 set-bit : (i b : ℕ) → b / 2 ^ i % 2 ≡ 1 → bit i b ≡ true
 unfolding bit
