@@ -1,6 +1,6 @@
-// The management unit: what its bytes say, and what an edit or an advance makes of it. Document 01, "The unit". The
-// definitions that the contracts cite are in `rules`, Units.antt and Refusals.antt. A unit is its 32 bytes: whoever
-// calls hands over just these.
+// The management unit: what its bytes say, what an edit or an advance makes of it, and the rights that it gives. Document
+// 01, "The unit". The definitions that the contracts cite are in `rules`, Units.antt, Refusals.antt and Effects.antt. A
+// unit is its 32 bytes: whoever calls hands over just these.
 ghost use mathlib.Core.Path.{_≡_};
 ghost use mathlib.Core.Bool.{true, not};
 ghost use Prim.Native.Nat.{_+_, _≤_};
