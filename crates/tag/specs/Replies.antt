@@ -1,5 +1,5 @@
 -- What the functions of `tag` hand each other in a run over a log. The public contracts do not cite it.
-use Prim.Native.Nat.{ℕ}
+use Prim.Native.Nat.{ℕ, _+_, _≤_}
 use mathlib.Core.Path.{_≡_}
 use mathlib.Core.List.{List}
 use mathlib.Core.Option.{Option, none, some}
@@ -11,6 +11,8 @@ use Rattle.rules.specs.State.{Cipher, State, state}
 use Rattle.rules.specs.Command.{Command, Reply, read, done, refused, reply, after}
 use Rattle.rules.specs.Calls.{replyOf}
 use Rattle.rules.specs.Log.{countOf, encoded}
+use Rattle.command_log.specs.declared.Next.{Next}
+use Rattle.command_log.specs.Next.{kindOf, commandAt, lengthOf, roomAsked}
 use Rattle.tag.specs.declared.Replied.{Replied}
 
 -- what is replied to the command that comes next, with the length of its body, and the state after it; `none` is a 15
@@ -21,6 +23,11 @@ replyFor E s (some x) = reply E s (x .0)
 abbrev pub afterFor : Cipher → State → Option (Command × ℕ) → State
 afterFor E s none = s
 afterFor E s (some x) = after E s (x .0)
+
+-- what comes next at `at` goes to `end`, and the output has the room that its reply must find
+pub record Room (log : List ℕ) (at end : ℕ) (x : Next) (out : List ℕ) : Type 0 where
+  pub ends : end ≡ at + lengthOf (kindOf x)
+  pub wide : roomAsked (commandAt log at x) ≤ length out
 
 -- a read of a log, by the last digit of its kind
 abbrev pub readCounted : (address digit : ℕ) → Command

@@ -12,8 +12,8 @@ ghost use Rattle.rules.specs.Calls.{CarriedOut};
 ghost use Rattle.rules.specs.Log.{countOf};
 ghost use Rattle.rules.specs.Runs.{returned, result, runOver};
 ghost use Rattle.xxtea.specs.Block.{E};
-ghost use Rattle.command_log.specs.Next.{ComesNext, commandAt, roomAsked};
-ghost use Rattle.tag.specs.Replies.{Answered, Written, Replies, readCounted};
+ghost use Rattle.command_log.specs.Next.{ComesNext, commandAt};
+ghost use Rattle.tag.specs.Replies.{Answered, Room, Written, Replies, readCounted};
 use command_log::Next;
 use rules::Answer;
 use rules::Outcome;
@@ -111,17 +111,19 @@ fn reply_with(output: &mut [u8], answer: Answer, session: Session) -> Replied
     }
 }
 
-// Carries out what comes next at a byte of the log, and puts its reply at the start of the output. A 15 is replied too.
+// Carries out what comes next at a byte of the log and goes to `end`, and puts its reply at the start of the output. A 15
+// is replied too.
 fn reply_to(
     tag: &mut [u8],
     is_sound: bool,
     session: Session,
     log: &[u8],
     at: usize,
+    end: usize,
     next: Next,
     output: &mut [u8],
 ) -> Replied
-    requires { ⌜ («is_sound» ≡ sound (now tag)) × ComesNext (now log) at next × (roomAsked (commandAt (now log) at next) ≤ length (now output)) ⌝ }
+    requires { ⌜ («is_sound» ≡ sound (now tag)) × ComesNext (now log) at next × Room (now log) at end next (now output) ⌝ }
     ensures { λ r. ⌜ Replies E (state (now (tag .entry)) session) (commandAt (now (log .entry)) at next) (now (output .entry)) (now (tag .exit)) (now (output .exit)) r ⌝ }
 {
     match next {
@@ -133,11 +135,9 @@ fn reply_to(
                 session,
             }
         }
-        Next::Write(digit) => {
+        Next::Write(_) => {
             let address = octets::number32(log, at + 1);
-            let start = at + 5;
-            let end = start + command_log::count_of(digit);
-            let outcome = writes::write(tag, is_sound, session, address, &log[start..end]);
+            let outcome = writes::write(tag, is_sound, session, address, &log[at + 5..end]);
             let answer = outcome.answer;
             let after = outcome.session;
             reply_with(output, answer, after)
@@ -149,9 +149,7 @@ fn reply_to(
         }
         Next::Insert => {
             let segment = octets::number16(log, at + 1);
-            let start = at + 3;
-            let end = start + 16;
-            let host = octets::sixteen(&log[start..end]);
+            let host = octets::sixteen(&log[at + 3..end]);
             let answer = moves::insert(tag, is_sound, session, segment, host);
             reply_with(output, answer, session)
         }
@@ -183,12 +181,14 @@ pub fn run(tag: &mut [u8], session: Session, log: &[u8], output: &mut [u8]) -> r
         if output.len() - written < command_log::room_of(next) {
             return stopped(read, written, Stop::OutputFull, session);
         }
+        let end = read + command_log::length_of(next);
         let replied = reply_to(
             tag,
             is_sound,
             session,
             log,
             read,
+            end,
             next,
             &mut output[written..],
         );
@@ -198,7 +198,7 @@ pub fn run(tag: &mut [u8], session: Session, log: &[u8], output: &mut [u8]) -> r
         if let Next::Unreadable = next {
             return stopped(read, written, Stop::BadCommand, session);
         }
-        read += command_log::length_of(next);
+        read = end;
     }
     stopped(read, written, Stop::End, session)
 }

@@ -5,8 +5,9 @@ use native.Mathlib.Omega.{arith}
 use lib.ListN.{length}
 use Rattle.rules.specs.State.{state}
 use Rattle.rules.specs.Command.{grant}
-use Rattle.rules.specs.Log.{bodyLength, commandOf, roomFor}
+use Rattle.rules.specs.Log.{countOf, bodyLength, commandOf, roomFor}
 use Rattle.command_log.specs.declared.Next.{Next}
+use Rattle.command_log.specs.declared.Next.the-variants.{Write}
 use Rattle.command_log.specs.Next.{ComesNext, kindOf, commandAt, lengthOf, roomAsked}
 use Rattle.command_log.proofs.Laws.{read-at, write-at, advance-at, insert-at, read-counted}
 use Rattle.tag.proofs.Laws.{answered, write-replied, insert-replied, powered-up, read-replied, unreadable-replied}
@@ -14,14 +15,17 @@ use borrow.Author.Needs.{needs}
 use Rattle.tag.proofs.reply_to.Statement.{statement}
 use Rattle.tag.proofs.reply_to.Tie as tie
 
--- the log has all of what comes next, and the output room for its reply
-long : (s : tie.Start) (x : Next) → s .args .next ≡ x → s .args .at + lengthOf (kindOf x) ≤ length (s .args .log .now)
-long s x e = subst (λ x. s .args .at + lengthOf (kindOf x) ≤ length (s .args .log .now)) e (s .pre .1 .whole)
+-- where what comes next ends: in the log; and the room for its reply
+ends : (s : tie.Start) (x : Next) → s .args .next ≡ x
+    → (s .args .end ≡ s .args .at + lengthOf (kindOf x)) × (s .args .at + lengthOf (kindOf x) ≤ length (s .args .log .now))
+ends s x e =
+    subst (λ x. (s .args .end ≡ s .args .at + lengthOf (kindOf x)) × (s .args .at + lengthOf (kindOf x) ≤ length (s .args .log .now))) e
+    (s .pre .2 .ends, s .pre .1 .whole)
 
 room : (s : tie.Start) (x : Next) → s .args .next ≡ x
     → roomAsked (commandAt (s .args .log .now) (s .args .at) x) ≤ length (s .args .output .now)
 room s x e =
-    subst (λ x. roomAsked (commandAt (s .args .log .now) (s .args .at) x) ≤ length (s .args .output .now)) e (s .pre .2)
+    subst (λ x. roomAsked (commandAt (s .args .log .now) (s .args .at) x) ≤ length (s .args .output .now)) e (s .pre .2 .wide)
 
 enum-told : tie.Need-enum-told
 enum-told c = search needs
@@ -42,7 +46,7 @@ add-number32 c = search needs
 number32-requires : tie.Need-number32-requires
 unfolding bodyLength
 number32-requires c κs =
-    omega (arith, long (c .before .before .before .before .before .before) _ (c .before .next .given .1))
+    omega (arith, ends (c .before .before .before .before .before .before) _ (c .before .next .given .1) .1)
 
 reply-read-requires : tie.Need-reply-read-requires
 unfolding commandOf roomFor
@@ -52,8 +56,8 @@ reply-read-requires c κs =
     let n = subst (ComesNext (start .args .log .now) (start .args .at)) e (start .pre .1) in
     (start .pre .0, read-counted _ _ _ n, room start _ e)
 
-enum-known-next-2 : tie.Need-enum-known-next-2
-enum-known-next-2 c = search needs
+enum-told-2 : tie.Need-enum-told-2
+enum-told-2 c = search needs
 
 add-number32-2 : tie.Need-add-number32-2
 add-number32-2 c = search needs
@@ -61,37 +65,33 @@ add-number32-2 c = search needs
 number32-requires-2 : tie.Need-number32-requires-2
 unfolding bodyLength
 number32-requires-2 c κs =
-    omega (arith, long (c .before .before .before .before .before .before) _ (c .before .next2 .given .1))
+    omega (arith, ends (c .before .before .before .before .before) _ (c .enum-told2 .given .1) .1)
 
-add-start : tie.Need-add-start
-add-start c = search needs
-
-count-of-requires : tie.Need-count-of-requires
-count-of-requires c κs = search needs
-
-add-end : tie.Need-add-end
-add-end c = search needs
+add-write : tie.Need-add-write
+add-write c = search needs
 
 sub-write : tie.Need-sub-write
-sub-write c = search needs
+unfolding bodyLength
+sub-write c =
+    omega (arith, ends (c .before .before .before .before .before .before .before) _ (c .before .before .enum-told2 .given .1) .0)
 
 part-write-start : tie.Need-part-write-start
-part-write-start c = search needs
+unfolding bodyLength
+part-write-start c =
+    omega (arith, ends (c .before .before .before .before .before .before .before) _ (c .before .before .enum-told2 .given .1) .0)
 
 part-write-end : tie.Need-part-write-end
-unfolding bodyLength
-part-write-end c =
-    omega (arith, c .before .count-of .ensures .0, long (c .before .before .before .before .before .before .before .before .before) _ (c .before .before .before .before .next2 .given .1))
+part-write-end c = search needs
 
 write-requires : tie.Need-write-requires
 write-requires c κs = search needs
 
 reply-with-requires-2 : tie.Need-reply-with-requires-2
 unfolding commandOf roomFor
-reply-with-requires-2 c κs = room (c .before .before .before .before .before .before .before .before .before .before .before .before .before .before .before) _ (c .before .before .before .before .before .before .before .before .before .before .next2 .given .1)
+reply-with-requires-2 c κs = room (c .before .before .before .before .before .before .before .before .before .before .before .before .before) _ (c .before .before .before .before .before .before .before .before .enum-told2 .given .1)
 
-enum-told-2 : tie.Need-enum-told-2
-enum-told-2 c = search needs
+enum-told-3 : tie.Need-enum-told-3
+enum-told-3 c = search needs
 
 add-number16 : tie.Need-add-number16
 add-number16 c = search needs
@@ -99,17 +99,17 @@ add-number16 c = search needs
 number16-requires : tie.Need-number16-requires
 unfolding bodyLength
 number16-requires c κs =
-    omega (arith, long (c .before .before .before .before .before) _ (c .enum-told2 .given .1))
+    omega (arith, ends (c .before .before .before .before .before) _ (c .enum-told3 .given .1) .1)
 
 advance-requires : tie.Need-advance-requires
 advance-requires c κs = search needs
 
 reply-with-requires-3 : tie.Need-reply-with-requires-3
 unfolding commandOf roomFor
-reply-with-requires-3 c κs = room (c .before .before .before .before .before .before .before .before .before .before .before) _ (c .before .before .before .before .before .before .enum-told2 .given .1)
+reply-with-requires-3 c κs = room (c .before .before .before .before .before .before .before .before .before .before .before) _ (c .before .before .before .before .before .before .enum-told3 .given .1)
 
-enum-told-3 : tie.Need-enum-told-3
-enum-told-3 c = search needs
+enum-told-4 : tie.Need-enum-told-4
+enum-told-4 c = search needs
 
 add-number16-2 : tie.Need-add-number16-2
 add-number16-2 c = search needs
@@ -117,24 +117,23 @@ add-number16-2 c = search needs
 number16-requires-2 : tie.Need-number16-requires-2
 unfolding bodyLength
 number16-requires-2 c κs =
-    omega (arith, long (c .before .before .before .before .before) _ (c .enum-told3 .given .1))
+    omega (arith, ends (c .before .before .before .before .before) _ (c .enum-told4 .given .1) .1)
 
-add-start-2 : tie.Need-add-start-2
-add-start-2 c = search needs
-
-add-end-2 : tie.Need-add-end-2
-add-end-2 c = search needs
+add-sixteen : tie.Need-add-sixteen
+add-sixteen c = search needs
 
 sub-sixteen : tie.Need-sub-sixteen
-sub-sixteen c = search needs
+unfolding bodyLength
+sub-sixteen c =
+    omega (arith, ends (c .before .before .before .before .before .before) _ (c .before .enum-told4 .given .1) .0)
 
 part-sixteen-start : tie.Need-part-sixteen-start
-part-sixteen-start c = search needs
+unfolding bodyLength
+part-sixteen-start c =
+    omega (arith, ends (c .before .before .before .before .before .before) _ (c .before .enum-told4 .given .1) .0)
 
 part-sixteen-end : tie.Need-part-sixteen-end
-unfolding bodyLength
-part-sixteen-end c =
-    omega (arith, long (c .before .before .before .before .before .before) _ (c .before .enum-told3 .given .1))
+part-sixteen-end c = search needs
 
 sixteen-requires : tie.Need-sixteen-requires
 sixteen-requires c κs = search needs
@@ -144,13 +143,13 @@ insert-requires c κs = search needs
 
 reply-with-requires-4 : tie.Need-reply-with-requires-4
 unfolding commandOf roomFor
-reply-with-requires-4 c κs = room (c .before .before .before .before .before .before .before .before .before .before .before .before .before) _ (c .before .before .before .before .before .before .before .before .enum-told3 .given .1)
+reply-with-requires-4 c κs = room (c .before .before .before .before .before .before .before .before .before .before .before .before .before) _ (c .before .before .before .before .before .before .before .before .enum-told4 .given .1)
 
-enum-told-4 : tie.Need-enum-told-4
-enum-told-4 c = search needs
+enum-told-5 : tie.Need-enum-told-5
+enum-told-5 c = search needs
 
 reply-with-requires-5 : tie.Need-reply-with-requires-5
-reply-with-requires-5 c κs = room (c .before .before .before .before .before .before) _ (c .before .enum-told4 .given .1)
+reply-with-requires-5 c κs = room (c .before .before .before .before .before .before) _ (c .before .enum-told5 .given .1)
 
 same-length : tie.Need-same-length
 same-length c = search needs
@@ -184,16 +183,18 @@ same-length-5 : tie.Need-same-length-5
 same-length-5 c = search needs
 
 returns-3 : tie.Need-returns-3
+unfolding bodyLength
 returns-3 c =
     let written = c .before .before .before .before .before .before .before .write in
-    let counted = c .before .before .before .before .before .before .before .before .before .before in
-    let read = counted .before in
-    let told = read .before .before in
-    let a = told .before .before .before .before .before .args in
-    let e = ap (commandAt (a .log .now) (a .at)) (told .next2 .given .1) in
-    let f = rw (← counted .count-of .ensures .0) at (e ∙ write-at _ _ _ _ (read .number322 .ensures)) in
-    write-replied (state (a .tag .now) (a .session)) _ (a .at + 5) (counted .count-of .result) _ _ _ _ _ (written .result) _ _
-    f (written .ensures) (c .before .before .reply-with2 .ensures)
+    let read = c .before .before .before .before .before .before .before .before .before .before in
+    let told = read .before in
+    let start = told .before .before .before .before .before in
+    let a = start .args in
+    let d = told .enum-told2 .given .0 .0 in
+    let e = ap (commandAt (a .log .now) (a .at)) (told .enum-told2 .given .1) in
+    let l : a .end ≡ a .at + 5 + countOf d = omega (arith, ends start (Write d) (told .enum-told2 .given .1) .0) in
+    write-replied (state (a .tag .now) (a .session)) _ (a .at + 5) (countOf d) _ _ _ _ _ (written .result) _ _
+    (e ∙ write-at _ _ _ _ (read .number322 .ensures)) (rw l at (written .ensures)) (c .before .before .reply-with2 .ensures)
 
 same-length-6 : tie.Need-same-length-6
 same-length-6 c = search needs
@@ -206,7 +207,7 @@ returns-4 c =
     let read = c .before .before .before .before .before .before .before .before in
     let told = read .before in
     let a = told .before .before .before .before .before .args in
-    let e = ap (commandAt (a .log .now) (a .at)) (told .enum-told2 .given .1) in
+    let e = ap (commandAt (a .log .now) (a .at)) (told .enum-told3 .given .1) in
     answered (state (a .tag .now) (a .session)) _ _ _ _ _ _ _ _ _ (e ∙ advance-at _ _ _ (read .number16 .ensures))
     (unfold grant in refl) (c .before .before .before .before .before .before .advance .ensures) (c .before .before .reply-with3 .ensures)
 
@@ -225,10 +226,11 @@ returns-5 c =
     let told = read .before in
     let start = told .before .before .before .before .before in
     let a = start .args in
-    let e = ap (commandAt (a .log .now) (a .at)) (told .enum-told3 .given .1) in
-    let l = long start _ (told .enum-told3 .given .1) in
-    insert-replied (state (a .tag .now) (a .session)) _ (a .at + 3) _ _ _ _ _ _ _ _ _ (omega (arith, l))
-    (e ∙ insert-at _ _ _ (read .number162 .ensures)) (copied .sixteen .ensures) (made .insert .ensures)
+    let e = ap (commandAt (a .log .now) (a .at)) (told .enum-told4 .given .1) in
+    let x = ends start _ (told .enum-told4 .given .1) in
+    let l : a .end ≡ a .at + 3 + 16 = omega (arith, x .0) in
+    insert-replied (state (a .tag .now) (a .session)) _ (a .at + 3) _ _ _ _ _ _ _ _ _ (omega (arith, x .1))
+    (e ∙ insert-at _ _ _ (read .number162 .ensures)) (rw l at (copied .sixteen .ensures)) (made .insert .ensures)
     (c .before .before .reply-with4 .ensures)
 
 same-length-10 : tie.Need-same-length-10
@@ -237,7 +239,7 @@ same-length-10 c = search needs
 returns-6 : tie.Need-returns-6
 returns-6 c =
     let a = c .before .before .before .before .before .before .before .before .before .args in
-    let e = ap (commandAt (a .log .now) (a .at)) (c .before .before .before .before .enum-told4 .given .1) in
+    let e = ap (commandAt (a .log .now) (a .at)) (c .before .before .before .before .enum-told5 .given .1) in
     unreadable-replied (state (a .tag .now) (a .session)) _ _ _ _ e (c .before .before .reply-with5 .ensures)
 
 pub reply-to-spec : {M : Type 1} → statement M
@@ -251,34 +253,31 @@ reply-to-spec =
     add-number32
     number32-requires
     reply-read-requires
-    enum-known-next-2
+    enum-told-2
     add-number32-2
     number32-requires-2
-    add-start
-    count-of-requires
-    add-end
+    add-write
     sub-write
     part-write-start
     part-write-end
     write-requires
     reply-with-requires-2
-    enum-told-2
+    enum-told-3
     add-number16
     number16-requires
     advance-requires
     reply-with-requires-3
-    enum-told-3
+    enum-told-4
     add-number16-2
     number16-requires-2
-    add-start-2
-    add-end-2
+    add-sixteen
     sub-sixteen
     part-sixteen-start
     part-sixteen-end
     sixteen-requires
     insert-requires
     reply-with-requires-4
-    enum-told-4
+    enum-told-5
     reply-with-requires-5
     same-length
     returns

@@ -1,14 +1,14 @@
 -- `tag::run` meets its contract. The loop's invariant: what is left of the log, run from here, leads to the result.
 -- Assumes nothing.
 use Prim.Native.Nat.{_+_, _-_, _≤_, _<_}
-use mathlib.Core.Path.{_≡_, refl, subst, _∙_}
+use mathlib.Core.Path.{_≡_, refl, ap, subst, _∙_}
 use native.Mathlib.Omega.{arith}
 use lib.ListN.{length}
 use borrow.Rule.Slice.PartMut.{putMid, mid-len, same-len-mid}
 use Rattle.rules.specs.State.{state}
 use Rattle.rules.specs.Runs.{runOver}
 use Rattle.xxtea.specs.Block.{E}
-use Rattle.command_log.specs.Next.{roomAsked, commandAt}
+use Rattle.command_log.specs.Next.{roomAsked, kindOf, commandAt, lengthOf}
 use Rattle.tag.proofs.RunLaws.{Going, going-first, written-within, falls, stops-full, stops-15, stops-end, goes-on}
 use borrow.Author.Needs.{needs}
 use Rattle.tag.proofs.run.Statement.{statement}
@@ -67,26 +67,39 @@ part-reply-to-start c = search needs
 part-reply-to-end : tie.Need-part-reply-to-end Inv-loop μ-loop
 part-reply-to-end c = search needs
 
+length-of-requires : tie.Need-length-of-requires Inv-loop μ-loop
+length-of-requires c κs = search needs
+
+add-end : tie.Need-add-end Inv-loop μ-loop
+add-end c =
+    let w = c .before .before .before .next-at .ensures .whole in
+    let e = c .length-of .ensures in
+    record { fits = omega (arith, w, e, c .before .before .before .before .before .before .before .before .before .before .before .good .1 .1 .0) }
+
 reply-to-requires : tie.Need-reply-to-requires Inv-loop μ-loop
 reply-to-requires c κs =
-    let loop = c .before .before .before .before .before .before .loop in
+    let loop = c .before .before .before .before .before .before .before .loop in
     let out = loop .output in
     let l = mid-len (loop .written) (length out) out (omega arith) in
-    let r = c .before .before .before .room-of .ensures (c .before .before .before .before .before .before .before .before .before .before .before .before .args .log .now) (loop .read) in
-    (loop .inv .0 .same, c .before .before .before .before .next-at .ensures, omega (arith, l, r))
+    let r = c .before .before .before .before .room-of .ensures (c .before .before .before .before .before .before .before .before .before .before .before .before .before .args .log .now) (loop .read) in
+    let e = c .before .before .length-of .ensures in (
+      loop .inv .0 .same,
+      c .before .before .before .before .before .next-at .ensures,
+      record { ends = ap (λ n. loop .read + n) e; wide = omega (arith, l, r) },
+    )
 
 -- the places before that behind the call of `reply_to`: the call, what came next, the loop and the start
 abbrev called : tie.After-struct-known Inv-loop μ-loop → tie.After-reply-to Inv-loop μ-loop
 called c = c .before .before .before .before .before .before
 
 abbrev parsed : tie.After-struct-known Inv-loop μ-loop → tie.After-next-at Inv-loop μ-loop
-parsed c = c .before .before .before .before .before .before .before .before .before .before .before
+parsed c = c .before .before .before .before .before .before .before .before .before .before .before .before
 
 abbrev looped : tie.After-struct-known Inv-loop μ-loop → tie.At-loop Inv-loop μ-loop
-looped c = c .before .before .before .before .before .before .before .before .before .before .before .before .before
+looped c = c .before .before .before .before .before .before .before .before .before .before .before .before .before .before
 
 abbrev start : tie.After-struct-known Inv-loop μ-loop → tie.Start Inv-loop μ-loop
-start c = c .before .before .before .before .before .before .before .before .before .before .before .before .before .before .before .before .before .before .before
+start c = c .before .before .before .before .before .before .before .before .before .before .before .before .before .before .before .before .before .before .before .before
 
 -- there was room, the reply is within it, and the output keeps its length
 room : (c : tie.After-struct-known Inv-loop μ-loop)
@@ -94,26 +107,26 @@ room : (c : tie.After-struct-known Inv-loop μ-loop)
     ≤ length (looped c .loop .output) - looped c .loop .written
 room c =
     let loop = looped c .loop in
-    let asked = c .before .before .before .before .before .before .before .before .before .before .room-of .ensures (start c .args .log .now) (loop .read) in
-    subst (λ k. k ≤ length (loop .output) - loop .written) asked (c .before .before .before .before .before .before .before .before .before .if1 .left)
+    let asked = c .before .before .before .before .before .before .before .before .before .before .before .room-of .ensures (start c .args .log .now) (loop .read) in
+    subst (λ k. k ≤ length (loop .output) - loop .written) asked (c .before .before .before .before .before .before .before .before .before .before .if1 .left)
 
 within : (c : tie.After-struct-known Inv-loop μ-loop)
     → looped c .loop .written + called c .reply-to .result .written ≤ length (looped c .loop .output)
 within c =
     let loop = looped c .loop in
     let reply = called c .reply-to in
-    written-within _ _ (loop .output) _ (reply .last .1 .1 .1 .1 .1 .1 .0) _ _ (loop .written) _ (reply .result)
+    written-within _ _ (loop .output) _ (reply .last .1 .1 .1 .1 .1 .1 .1 .0) _ _ (loop .written) _ (reply .result)
     (parsed c .next-at .ensures) (loop .inv .0 .fits) (room c) (reply .ensures)
 
 size : (c : tie.After-struct-known Inv-loop μ-loop)
     → length (putMid (looped c .loop .written) (length (looped c .loop .output) - looped c .loop .written)
-    (looped c .loop .output) (called c .reply-to .last .1 .1 .1 .1 .1 .1 .0))
+    (looped c .loop .output) (called c .reply-to .last .1 .1 .1 .1 .1 .1 .1 .0))
     ≡ length (start c .args .output .now)
 size c =
     let loop = looped c .loop in
     let reply = called c .reply-to in
-    same-len-mid (loop .written) (length (loop .output) - loop .written) (loop .output) (reply .last .1 .1 .1 .1 .1 .1 .0)
-    (reply .kept .1 .1 .1 .1 .1 .1 .0)
+    same-len-mid (loop .written) (length (loop .output) - loop .written) (loop .output) (reply .last .1 .1 .1 .1 .1 .1 .1 .0)
+    (reply .kept .1 .1 .1 .1 .1 .1 .1 .0)
     ∙ loop .inv .2
 
 add-written : tie.Need-add-written Inv-loop μ-loop
@@ -142,32 +155,26 @@ returns-2 c =
     stops-15 _ _ _ _ _ _ _ _ _ _ (n .result) _ _ (looped at .loop .inv .0) (parsed at .before .loop-test .taken)
     (n .ensures) (c .before .enum-told .given .1) (room at) (called at .reply-to .ensures) (c .stopped2 .ensures)
 
-length-of-requires : tie.Need-length-of-requires Inv-loop μ-loop
-length-of-requires c κs = search needs
-
-add-read : tie.Need-add-read Inv-loop μ-loop
-add-read c =
-    let at = c .before .before in
-    let w = parsed at .next-at .ensures .whole in
-    let e = c .length-of .ensures in
-    record { fits = omega (arith, start at .good .1 .1 .0) }
+-- the length of what came next
+long : (c : tie.After-struct-known Inv-loop μ-loop) → c .before .before .before .before .before .before .before .before .before .length-of .result ≡ lengthOf (kindOf (parsed c .next-at .result))
+long c = c .before .before .before .before .before .before .before .before .before .length-of .ensures
 
 loop-less : tie.Need-loop-less Inv-loop μ-loop
 loop-less c =
-    let at = c .before .before in
-    falls (start at .args .log .now) _ (parsed at .next-at .result) _ (c .before .match .keys2)
-    (parsed at .before .loop-test .taken) (c .length-of .ensures)
+    let at = c .before in
+    falls (start at .args .log .now) _ (parsed at .next-at .result) _ (c .match .keys2)
+    (parsed at .before .loop-test .taken) (long at)
 
 loop-again : tie.Need-loop-again Inv-loop μ-loop
 loop-again c =
-    let at = c .before .before in
+    let at = c .before in
     let loop = looped at .loop in
     let n = parsed at .next-at in
     let reply = called at .reply-to in
     let g =
     goes-on _ _ _ _ _ _ _ _ _ _ (n .result) _ (loop .inv .0) (parsed at .before .loop-test .taken) (n .ensures)
-    (c .before .match .keys2) (room at) (reply .ensures) in
-    (rw (c .length-of .ensures) g, reply .kept .0 ∙ loop .inv .1, size at)
+    (c .match .keys2) (room at) (reply .ensures) in
+    (rw (long at) g, reply .kept .0 ∙ loop .inv .1, size at)
 
 stopped-requires-3 : tie.Need-stopped-requires-3 Inv-loop μ-loop
 stopped-requires-3 c κs = search needs
@@ -197,6 +204,8 @@ run-spec =
     same-length
     same-length-2
     returns
+    length-of-requires
+    add-end
     sub-reply-to
     part-reply-to-start
     part-reply-to-end
@@ -207,8 +216,6 @@ run-spec =
     same-length-3
     same-length-4
     returns-2
-    length-of-requires
-    add-read
     loop-less
     loop-again
     stopped-requires-3
