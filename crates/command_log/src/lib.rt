@@ -4,7 +4,7 @@ ghost use mathlib.Core.Path.{_≡_};
 ghost use Prim.Native.Nat.{ℕ, _≤_, _<_};
 ghost use mathlib.Core.List.{List};
 ghost use lib.ListN.{length};
-ghost use Rattle.rules.specs.Bytes.{put};
+ghost use Rattle.rules.specs.Bytes.{byte, put};
 ghost use Rattle.rules.specs.Answers.{numberOf};
 ghost use Rattle.rules.specs.Command.{done};
 ghost use Rattle.rules.specs.Log.{countOf, kinds, kindIn, encoded};
@@ -38,19 +38,6 @@ pub fn count_of(digit: u8) -> usize
     }
 }
 
-fn kind_of(byte: u8) -> Next
-    ensures { λ r. ⌜ kindOf r ≡ kindIn kinds byte ⌝ }
-{
-    match byte {
-        0x00 => Next::PowerUp,
-        0x11..=0x14 => Next::Read(byte - 0x10),
-        0x21..=0x24 => Next::Write(byte - 0x20),
-        0x31 => Next::Advance,
-        0x32 => Next::Insert,
-        _ => Next::Unreadable,
-    }
-}
-
 // The bytes that it takes; a 15 takes none.
 pub fn length_of(next: Next) -> usize
     ensures { λ r. ⌜ r ≡ lengthOf (kindOf next) ⌝ }
@@ -65,16 +52,31 @@ pub fn length_of(next: Next) -> usize
     }
 }
 
+// A command of the kind that a byte of the log has, if its body is whole.
+fn if_whole(log: &[u8], at: usize, next: Next) -> Next
+    requires { ⌜ (at < length (now log)) × (kindOf next ≡ kindIn kinds (byte at (now log))) ⌝ }
+    ensures { λ r. ⌜ ComesNext (now (log .entry)) at r ⌝ }
+{
+    if log.len() - at < length_of(next) {
+        return Next::Unreadable;
+    }
+    next
+}
+
 // What begins at a byte of the log.
 pub fn next_at(log: &[u8], at: usize) -> Next
     requires { ⌜ at < length (now log) ⌝ }
     ensures { λ r. ⌜ ComesNext (now (log .entry)) at r ⌝ }
 {
-    let next = kind_of(log[at]);
-    if log.len() - at < length_of(next) {
-        return Next::Unreadable;
+    let kind = log[at];
+    match kind {
+        0x00 => if_whole(log, at, Next::PowerUp),
+        0x11..=0x14 => if_whole(log, at, Next::Read(kind - 0x10)),
+        0x21..=0x24 => if_whole(log, at, Next::Write(kind - 0x20)),
+        0x31 => if_whole(log, at, Next::Advance),
+        0x32 => if_whole(log, at, Next::Insert),
+        _ => Next::Unreadable,
     }
-    next
 }
 
 // The room that its reply must find, wherever it stands in a log.
