@@ -2,7 +2,7 @@
 use Prim.Native.Nat.{ℕ, _+_, _-_, _≤_, _<_}
 use mathlib.Core.Path.{_≡_, refl, sym, ap, ap₂, _∙_}
 use mathlib.Core.Bool.{true}
-use mathlib.Core.List.{List}
+use mathlib.Core.List.{List, [], _∷_}
 use native.Mathlib.Omega.{arith}
 use lib.ListN.{length}
 use borrow.Rule.Slice.PartMut.{midOf, putMid}
@@ -20,7 +20,7 @@ use Rattle.rules.proofs.HostList.{each-at, at-host}
 use Rattle.rules.proofs.SlotPairs.{Beside}
 use Rattle.rules.proofs.SharedKeys.{all-beside, own-end}
 use Rattle.octets.proofs.Laws.{put-back, put-part, part-lent, length-lent}
-use Rattle.hosts.specs.Joining.{Insertable, Rows, allPaired, rowStored}
+use Rattle.hosts.specs.Joining.{Insertable, Rows, allPaired}
 
 -- what the code asks of the sizes
 pub record Sized (t : List ℕ) (k : ℕ) (id : List ℕ) : Type 0 where
@@ -70,9 +70,9 @@ module _ (t : List ℕ) (k : ℕ) (id : List ℕ) (insertable : Insertable t k i
 
   -- neither the pairs nor the row touch its unit
   unit-stays : (t₂ : List ℕ)
-      → t₂ ≡ rowStored (apply (pairsOf t k id) t) (length (hosts t)) k id
+      → t₂ ≡ apply (rowStore (length (hosts t)) k id ∷ []) (apply (pairsOf t k id) t)
       → part (unitAt k) 32 t₂ ≡ unitBytes t k
-  unfolding unitBytes
+  unfolding unitBytes rowStore apply
   unit-stays t₂ e =
       let g = sound-long t w .0 in
       let h = f .there in
@@ -83,7 +83,7 @@ module _ (t : List ℕ) (k : ℕ) (id : List ℕ) (insertable : Insertable t k i
 
   -- the tag after the pairs, and after the row; the unit is as it was
   inserted-at : (x : ℕ) (t₁ t₂ ys : List ℕ) → x ≡ length (hosts t)
-      → t₁ ≡ allPaired t x k id → t₂ ≡ rowStored t₁ x k id → length t₂ ≡ length t
+      → t₁ ≡ allPaired t x k id → t₂ ≡ apply (rowStore x k id ∷ []) t₁ → length t₂ ≡ length t
       → ys ≡ put 0 (inserted (midOf (unitAt k) (unitAt k + 32 - unitAt k) t₂)) (midOf (unitAt k) (unitAt k + 32 - unitAt k) t₂)
       → putMid (unitAt k) (unitAt k + 32 - unitAt k) t₂ ys ≡ apply (insertStores t k id) t
   unfolding insertStores rowStore apply
@@ -91,8 +91,8 @@ module _ (t : List ℕ) (k : ℕ) (id : List ℕ) (insertable : Insertable t k i
       let a = unitAt k in
       let u = unitBytes t k in
       let first : t₁ ≡ apply (pairsOf t k id) t = rw q at e₁ in
-      let second : t₂ ≡ rowStored (apply (pairsOf t k id) t) (length (hosts t)) k id =
-      e₂ ∙ ap₂ (λ n v. rowStored v n k id) q first in
+      let second : t₂ ≡ apply (rowStore (length (hosts t)) k id ∷ []) (apply (pairsOf t k id) t) =
+      e₂ ∙ ap₂ (λ n v. apply (rowStore n k id ∷ []) v) q first in
       let inside : a + 32 ≤ length t₂ = omega (arith, insert-sizes .inside, l) in
       let same : part a 32 t₂ ≡ u = unit-stays t₂ second in
       let ms = inserted u in
@@ -104,7 +104,7 @@ module _ (t : List ℕ) (k : ℕ) (id : List ℕ) (insertable : Insertable t k i
 
   -- the unit stands at `a`
   pub inserted-all : (x a : ℕ) (t₁ t₂ ys : List ℕ) → x ≡ length (hosts t)
-      → t₁ ≡ allPaired t x k id → t₂ ≡ rowStored t₁ x k id → length t₂ ≡ length t → a ≡ unitAt k
+      → t₁ ≡ allPaired t x k id → t₂ ≡ apply (rowStore x k id ∷ []) t₁ → length t₂ ≡ length t → a ≡ unitAt k
       → ys ≡ put 0 (inserted (midOf a (a + 32 - a) t₂)) (midOf a (a + 32 - a) t₂)
       → putMid a (a + 32 - a) t₂ ys ≡ apply (insertStores t k id) t
   inserted-all x a t₁ t₂ ys q e₁ e₂ l d e₃ = rw d (inserted-at x t₁ t₂ ys q e₁ e₂ l (rw d at e₃))

@@ -8,10 +8,10 @@ use lib.ListN.{length, replicate, length-replicate}
 use lib.Dec.{eqb, leb}
 use Rattle.rules.specs.Bytes.{all, put, zeros}
 use Rattle.rules.specs.Map.{readersAt, unitAt}
-use Rattle.rules.specs.Hosts.{Host, rowAt, hostAt, hosts, hostsFrom, readers, mostHosts, listed, misses, readable}
+use Rattle.rules.specs.Hosts.{Host, rowAt, hostAt, hosts, hostsFrom, readers, mostHosts, listed, misses, readable, hostsIn}
 use Rattle.rules.proofs.HostList.{short-list}
 use Rattle.octets.proofs.Laws.{length-lent, put-whole}
-use Rattle.hosts.specs.Joining.{rowsFrom, rowsIn}
+use Rattle.hosts.specs.Joining.{rowsFrom}
 
 pub readers-length : (t r : List ℕ) → r ≡ readers t → unitAt 0 ≤ length t → length r ≡ 4096
 unfolding readers
@@ -28,9 +28,9 @@ id-copied r i lent copy l h e f =
     f ∙ rw e (put-whole (hostAt r i .id) (replicate 16 0) (id-length r i l h ∙ sym (length-replicate {A = ℕ} 16 0)))
 
 -- what is read of the lent segment is the tag's
-pub rows-counted : (t r : List ℕ) (n : ℕ) → r ≡ readers t → n ≡ length (rowsIn r) → n ≡ length (hosts t)
+pub rows-counted : (t r : List ℕ) (n : ℕ) → r ≡ readers t → n ≡ length (hostsIn r) → n ≡ length (hosts t)
 unfolding hosts
-rows-counted t r n e f = f ∙ ap (λ r. length (rowsIn r)) e
+rows-counted t r n e f = f ∙ ap (λ r. length (hostsIn r)) e
 
 pub row-named : (t r : List ℕ) (i n : ℕ) → r ≡ readers t → n ≡ hostAt r i .named → n ≡ hostAt (readers t) i .named
 row-named t r i n e f = f ∙ ap (λ r. hostAt r i .named) e
@@ -71,7 +71,7 @@ pub record Walk (n i : ℕ) (r : List ℕ) : Type 0 where
   pub rest : n ≡ i + length (rowsFrom i r)
   pub within : n ≤ 85
 
-pub walk-start : (n : ℕ) (r : List ℕ) → n ≡ length (rowsIn r) → Walk n 0 r
+pub walk-start : (n : ℕ) (r : List ℕ) → n ≡ length (hostsIn r) → Walk n 0 r
 unfolding mostHosts
 walk-start n r e =
     let b = short-list 85 0 r in record { rest = omega (arith, e); within = omega (arith, e, b) }
@@ -92,7 +92,7 @@ pub walk-end : (n i : ℕ) (r : List ℕ) → n ≤ i → Walk n i r → rowsFro
 walk-end n i r l w = let rest = w .rest in no-rows (rowsFrom i r) (omega arith)
 
 -- any row of it
-pub walk-at : (n : ℕ) (r : List ℕ) → n ≡ length (rowsIn r) → (i : ℕ) → i ≤ n → Walk n i r
+pub walk-at : (n : ℕ) (r : List ℕ) → n ≡ length (hostsIn r) → (i : ℕ) → i ≤ n → Walk n i r
 walk-at n r e zero h = walk-start n r e
 walk-at n r e (suc i) h =
     let q : i + 1 ≡ suc i = omega arith in rw q at (walk-next n i r (omega arith) (walk-at n r e i (omega arith)))

@@ -4,19 +4,15 @@ use Prim.Native.Nat.{ℕ, _+_, _-_, _*_, _≤_, _<_}
 use mathlib.Core.Path.{_≡_}
 use mathlib.Core.Logic.{_≢_}
 use mathlib.Core.Bool.{true, false}
-use mathlib.Core.List.{List, _++_}
+use mathlib.Core.List.{List}
 use lib.ListN.{length}
-use Rattle.rules.specs.Bytes.{bytesOf, put}
-use Rattle.rules.specs.Map.{segments, segmentsAt, sound, readersAt, unitAt}
+use Rattle.rules.specs.Map.{segments, segmentsAt, sound, unitAt}
 use Rattle.rules.specs.Units.{wellFormed, unitBytes, unitOf}
-use Rattle.rules.specs.Hosts.{Host, hostAt, hosts, hostsFrom, hostSlotAt, mostHosts, readers, rowAt}
+use Rattle.rules.specs.Hosts.{Host, hostAt, hosts, hostsFrom, hostSlotAt, readers}
 use Rattle.rules.specs.Refusals.{isFilling, listRefuses}
 use Rattle.rules.specs.Effects.{apply, joinStores, pairStores}
 
--- ---- the list in the reader ID segment r: its rows, and those from row i on
-
-abbrev pub rowsIn : List ℕ → List Host
-rowsIn r = hostsFrom mostHosts 0 r
+-- ---- the list in the reader ID segment r, from row i on
 
 abbrev pub rowsFrom : ℕ → List ℕ → List Host
 rowsFrom i r = hostsFrom (85 - i) i r
@@ -52,7 +48,3 @@ rowPaired t x k id i =
 
 abbrev pub allPaired : List ℕ → (x k : ℕ) (id : List ℕ) → List ℕ
 allPaired t x k id = apply (joinStores (segments t) k x id 0 (hosts t) t) t
-
--- the tag after its row is stored, "id first and segment number plus one after"
-abbrev pub rowStored : List ℕ → (x k : ℕ) (id : List ℕ) → List ℕ
-rowStored t x k id = put (readersAt + rowAt x) (id ++ bytesOf 2 (k + 1)) t

@@ -3,15 +3,16 @@
 // the reader ID segment, and the number of its rows where they go through them.
 ghost use mathlib.Core.Path.{_≡_};
 ghost use mathlib.Core.Bool.{true};
+ghost use mathlib.Core.List.{[], _∷_};
 ghost use Prim.Native.Nat.{_+_, _%_, _≤_, _<_};
 ghost use lib.ListN.{length};
 ghost use Rattle.rules.specs.Bytes.{part, put, xor, Apart};
-ghost use Rattle.rules.specs.Hosts.{hostAt, readers, any, hasId, twin};
+ghost use Rattle.rules.specs.Hosts.{hostAt, hostsIn, readers, any, hasId, twin};
 ghost use Rattle.rules.specs.Hosts as list;
 ghost use Rattle.rules.specs.Map.{segments, sound, unitAt};
 ghost use Rattle.rules.specs.Refusals.{hides, listRefuses, misfit, rowFits};
-ghost use Rattle.rules.specs.Effects.{apply, insertStores, joinedSlot, pairStores};
-ghost use Rattle.hosts.specs.Joining.{Insertable, Rows, allPaired, rowPaired, rowStored, rowsFrom, rowsIn};
+ghost use Rattle.rules.specs.Effects.{apply, insertStores, joinedSlot, pairStores, rowStore};
+ghost use Rattle.hosts.specs.Joining.{Insertable, Rows, allPaired, rowPaired, rowsFrom};
 use rules::Model;
 use units::Decoded;
 
@@ -41,7 +42,7 @@ fn id_of(readers: &[u8], i: usize) -> &[u8]
 // The rows of the list.
 fn count(readers: &[u8]) -> usize
     requires { ⌜ length (now readers) ≡ 4096 ⌝ }
-    ensures { λ r. ⌜ r ≡ length (rowsIn (now (readers .entry))) ⌝ }
+    ensures { λ r. ⌜ r ≡ length (hostsIn (now (readers .entry))) ⌝ }
 {
     let mut i = 0;
     while i < ROWS {
@@ -55,8 +56,8 @@ fn count(readers: &[u8]) -> usize
 
 // Whether one of the rows, of which there are n, names segment k.
 fn listed(readers: &[u8], n: usize, k: usize) -> bool
-    requires { ⌜ (length (now readers) ≡ 4096) × (n ≡ length (rowsIn (now readers))) × (k < 65536) ⌝ }
-    ensures { λ r. ⌜ r ≡ list.listed k (rowsIn (now (readers .entry))) ⌝ }
+    requires { ⌜ (length (now readers) ≡ 4096) × (n ≡ length (hostsIn (now readers))) × (k < 65536) ⌝ }
+    ensures { λ r. ⌜ r ≡ list.listed k (hostsIn (now (readers .entry))) ⌝ }
 {
     let mut found = false;
     let mut i = 0;
@@ -69,8 +70,8 @@ fn listed(readers: &[u8], n: usize, k: usize) -> bool
 
 // Whether one of the n rows has this id.
 fn has_id(readers: &[u8], n: usize, id: [u8; 16]) -> bool
-    requires { ⌜ (length (now readers) ≡ 4096) × (n ≡ length (rowsIn (now readers))) ⌝ }
-    ensures { λ r. ⌜ r ≡ any (hasId id) (rowsIn (now (readers .entry))) ⌝ }
+    requires { ⌜ (length (now readers) ≡ 4096) × (n ≡ length (hostsIn (now readers))) ⌝ }
+    ensures { λ r. ⌜ r ≡ any (hasId id) (hostsIn (now (readers .entry))) ⌝ }
 {
     let mut found = false;
     let mut i = 0;
@@ -83,7 +84,7 @@ fn has_id(readers: &[u8], n: usize, id: [u8; 16]) -> bool
 
 // Whether a row behind row i has its id or names its segment.
 fn repeated(readers: &[u8], n: usize, i: usize) -> bool
-    requires { ⌜ (length (now readers) ≡ 4096) × (n ≡ length (rowsIn (now readers))) × (i < n) ⌝ }
+    requires { ⌜ (length (now readers) ≡ 4096) × (n ≡ length (hostsIn (now readers))) × (i < n) ⌝ }
     ensures { λ r. ⌜ r ≡ any (twin (hostAt (now (readers .entry)) i)) (rowsFrom (i + 1) (now (readers .entry))) ⌝ }
 {
     let id = octets::sixteen(id_of(readers, i));
@@ -99,8 +100,8 @@ fn repeated(readers: &[u8], n: usize, i: usize) -> bool
 
 // Whether two of the n rows have one id or name one segment.
 fn repeats(readers: &[u8], n: usize) -> bool
-    requires { ⌜ (length (now readers) ≡ 4096) × (n ≡ length (rowsIn (now readers))) ⌝ }
-    ensures { λ r. ⌜ r ≡ list.repeats (rowsIn (now (readers .entry))) ⌝ }
+    requires { ⌜ (length (now readers) ≡ 4096) × (n ≡ length (hostsIn (now readers))) ⌝ }
+    ensures { λ r. ⌜ r ≡ list.repeats (hostsIn (now (readers .entry))) ⌝ }
 {
     let mut found = false;
     let mut i = 0;
@@ -113,8 +114,8 @@ fn repeats(readers: &[u8], n: usize) -> bool
 
 // Whether n bytes at an offset of segment k touch no slot whose row names the segment.
 fn misses(readers: &[u8], rows: usize, k: usize, offset: usize, n: usize) -> bool
-    requires { ⌜ (length (now readers) ≡ 4096) × (rows ≡ length (rowsIn (now readers))) × (k < 65536) × (offset + n ≤ 4096) ⌝ }
-    ensures { λ r. ⌜ r ≡ list.misses k offset n 0 (rowsIn (now (readers .entry))) ⌝ }
+    requires { ⌜ (length (now readers) ≡ 4096) × (rows ≡ length (hostsIn (now readers))) × (k < 65536) × (offset + n ≤ 4096) ⌝ }
+    ensures { λ r. ⌜ r ≡ list.misses k offset n 0 (hostsIn (now (readers .entry))) ⌝ }
 {
     let mut all = true;
     let mut i = 0;
@@ -129,7 +130,7 @@ fn misses(readers: &[u8], rows: usize, k: usize, offset: usize, n: usize) -> boo
 // Whether n bytes at an offset of segment k may be read, as far as the list decides it.
 fn readable(readers: &[u8], k: usize, offset: usize, n: usize) -> bool
     requires { ⌜ (length (now readers) ≡ 4096) × (k < 65536) × (offset + n ≤ 4096) ⌝ }
-    ensures { λ r. ⌜ r ≡ list.readable k offset n (rowsIn (now (readers .entry))) ⌝ }
+    ensures { λ r. ⌜ r ≡ list.readable k offset n (hostsIn (now (readers .entry))) ⌝ }
 {
     let rows = count(readers);
     (listed(readers, rows, k) & (offset + n <= 48 * rows)) & misses(readers, rows, k, offset, n)
@@ -277,7 +278,7 @@ fn join_all(tag: &mut [u8], base: usize, x: usize, k: usize, id: [u8; 16])
 // Row x of the list: the id, and the segment number plus one.
 fn store_row(tag: &mut [u8], x: usize, k: usize, id: [u8; 16])
     requires { ⌜ (unitAt 0 ≤ length (now tag)) × (x < 85) × (k < 65536) × (length id ≡ 16) ⌝ }
-    ensures { λ _. ⌜ now (tag .exit) ≡ rowStored (now (tag .entry)) x k id ⌝ }
+    ensures { λ _. ⌜ now (tag .exit) ≡ apply (rowStore x k id ∷ []) (now (tag .entry)) ⌝ }
 {
     let at = layout::READERS + ROW_SIZE * x;
     octets::store_at(tag, at, &id);

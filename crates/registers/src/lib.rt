@@ -11,8 +11,9 @@ ghost use Rattle.rules.specs.State.{state, response};
 ghost use Rattle.rules.specs.State as states;
 ghost use Rattle.rules.specs.Answers.{refusalOf};
 ghost use Rattle.rules.specs.Refusals.{lowest, responseChecks, nameChecks, commitChecks, registerChecks};
+ghost use Rattle.rules.specs.Effects.{apply, commitStores};
 ghost use Rattle.xxtea.specs.Block.{E};
-ghost use Rattle.registers.specs.Registers.{Taken, committed, registerWritten};
+ghost use Rattle.registers.specs.Registers.{Taken, registerWritten};
 use rules::Answer;
 use rules::Refusal;
 use rules::Register;
@@ -123,7 +124,7 @@ fn masked(tag: &[u8], key: usize, data: &[u8]) -> [u8; 16]
 // COMMIT: a new PIN.
 fn commit(tag: &mut [u8], pin: usize, owner: usize, data: &[u8])
     requires { ⌜ (readersAt ≤ length (now tag)) × (pin ≤ 255) × (owner ≤ 3) × (length (now «data») ≡ 16) ⌝ }
-    ensures { λ _. ⌜ now (tag .exit) ≡ committed (now (tag .entry)) pin owner (now («data» .entry)) ⌝ }
+    ensures { λ _. ⌜ now (tag .exit) ≡ apply (commitStores E (now (tag .entry)) pin owner (now («data» .entry))) (now (tag .entry)) ⌝ }
 {
     let new = masked(tag, layout::OWNERS + 16 * owner, data);
     tag[layout::FLAG] = 1;

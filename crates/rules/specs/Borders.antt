@@ -13,7 +13,7 @@ use Rattle.rules.specs.declared.Place.the-variants.{Header, Hidden, Regi
 use Rattle.rules.specs.Bytes.{put}
 use Rattle.rules.specs.Map.{segments, publics, counter, flag, placeOf}
 use Rattle.rules.specs.Units.{wellFormed, unitOf}
-use Rattle.rules.specs.Hosts.{Host, mostHosts, hostsFrom}
+use Rattle.rules.specs.Hosts.{Host, hostsIn}
 use Rattle.rules.specs.Answers.{codeOf}
 use Rattle.rules.specs.Refusals.{Checks, lowest, segmentReadChecks, segmentWriteChecks, unitReadChecks, editChecks, advanceChecks, isFilling, isInserted}
 use Rattle.rules.specs.Effects.{Store, _↤_, stored, writeMove, advanceMove}
@@ -315,7 +315,7 @@ listBorders =
     ∷ []
 
 abbrev pub HostsListed : Type 0
-HostsListed = Table (hostsFrom mostHosts 0) listBorders
+HostsListed = Table hostsIn listBorders
 
 -- ---- what a granted write stores: by the unit, where 12 stands and 10 is written; and what it then stores at its unit
 

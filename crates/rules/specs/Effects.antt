@@ -117,16 +117,17 @@ insertStores t k id =
 -- ---- registers: "READ, WRITE, EDIT: flag .. is set to 1 .. NAME: same flag rule .. COMMIT: same flag rule; .. the
 -- written bytes XOR E_K(counter) become the PIN at the index"
 
+-- COMMIT, by the PIN index i and the owner index o that PA names
+abbrev pub commitStores : Cipher → (t : List ℕ) (i o : ℕ) (bs : List ℕ) → List Store
+commitStores E t i o bs = setFlag 1 ∷ (pinAt i ↤ xor bs (response E (owner t o) t)) ∷ []
+
 unfoldable pub registerStores : Cipher → State → Register → List ℕ → List Store
 registerStores E s Read bs = setFlag 1 ∷ []
 registerStores E s Write bs = setFlag 1 ∷ []
 registerStores E s Edit bs = setFlag 1 ∷ []
 registerStores E s Name bs = setFlag 1 ∷ []
 registerStores E s Id bs = []
-registerStores E s Commit bs =
-    setFlag 1
-    ∷ (pinAt (pinIndex (s .session)) ↤ xor bs (response E (owner (s .tag) (ownerIndex (s .session))) (s .tag)))
-    ∷ []
+registerStores E s Commit bs = commitStores E (s .tag) (pinIndex (s .session)) (ownerIndex (s .session)) bs
 registerStores E s Pa bs = []
 
 -- "that index becomes the validated index of this register's kind, the other two staying"; "the bytes XOR

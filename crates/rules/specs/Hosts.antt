@@ -34,9 +34,12 @@ hostsFrom (suc n) i r = cond (zeros (part (rowAt i) 16 r)) [] (hostAt r i ∷ ho
 unfoldable pub mostHosts : ℕ
 mostHosts = 85
 
--- the hosts of a tag
+-- the hosts of a reader ID segment, and of a tag
+abbrev pub hostsIn : List ℕ → List Host
+hostsIn r = hostsFrom mostHosts 0 r
+
 unfoldable pub hosts : List ℕ → List Host
-hosts t = hostsFrom mostHosts 0 (readers t)
+hosts t = hostsIn (readers t)
 
 -- a row that names segment k, and one that has this id
 abbrev pub names : ℕ → Host → Bool

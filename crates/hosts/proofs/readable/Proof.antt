@@ -1,8 +1,8 @@
 -- `hosts::readable` meets its contract. Assumes nothing.
 use mathlib.Core.Path.{sym}
 use native.Mathlib.Omega.{arith}
-use Rattle.hosts.specs.Joining.{rowsIn}
 use Rattle.hosts.proofs.ListLaws.{readable-is, walk-start}
+use Rattle.rules.specs.Hosts.{hostsIn}
 use borrow.Author.Needs.{needs}
 use Rattle.hosts.proofs.readable.Statement.{statement}
 use Rattle.hosts.proofs.readable.Tie as tie
@@ -29,7 +29,7 @@ returns : tie.Need-returns
 returns c =
     let a = c .before .before .before .before .args in
     rw (c .misses .ensures, c .before .listed .ensures, c .before .before .count .ensures)
-    (sym (readable-is (a .k) (a .offset) (a .n) (rowsIn (a .readers .now))))
+    (sym (readable-is (a .k) (a .offset) (a .n) (hostsIn (a .readers .now))))
 
 pub readable-spec : {M : Type 1} → statement M
 readable-spec =

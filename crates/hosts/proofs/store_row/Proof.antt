@@ -5,6 +5,7 @@ use Rattle.rules.specs.Bytes.{bytesOf, put}
 use Rattle.rules.specs.Map.{readersAt}
 use Rattle.rules.specs.Hosts.{rowAt}
 use Rattle.rules.proofs.BytesLaws.{put-append}
+use Rattle.rules.specs.Effects.{rowStore, apply}
 use borrow.Author.Needs.{needs}
 use Rattle.hosts.proofs.store_row.Statement.{statement}
 use Rattle.hosts.proofs.store_row.Tie as tie
@@ -34,6 +35,7 @@ same-length : tie.Need-same-length
 same-length c = search needs
 
 returns : tie.Need-returns
+unfolding rowStore apply
 returns c =
     let two = c .before .before in
     let one = two .before .before .before .before in

@@ -5,6 +5,7 @@ use lib.ListN.{length, length-set}
 use Rattle.octets.proofs.Laws.{set-put}
 use Rattle.rules.specs.Map.{flagAt}
 use Rattle.rules.specs.State.{owner}
+use Rattle.rules.specs.Effects.{apply}
 use Rattle.rules.proofs.BytesLaws.{length-xor}
 use borrow.Author.Needs.{needs}
 use Rattle.registers.proofs.commit.Statement.{statement}
@@ -40,7 +41,7 @@ same-length : tie.Need-same-length
 same-length c = simp length-set at (c .before .before .store-at .kept .0)
 
 returns : tie.Need-returns
-unfolding owner
+unfolding owner apply
 returns c =
     let at = c .before .before in
     let masked = at .before .before .before in
