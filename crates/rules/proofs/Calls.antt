@@ -11,7 +11,7 @@ use Rattle.rules.specs.declared.Answer.{Answer}
 use Rattle.rules.specs.declared.Answer.the-variants.{Done, Refused}
 use Rattle.rules.specs.declared.Refusal.the-variants.{WrongResponse}
 use Rattle.rules.specs.Bytes.{part, put}
-use Rattle.rules.specs.Map.{sound}
+use Rattle.rules.specs.Map.{sound, flagAt}
 use Rattle.rules.specs.State.{Cipher, State, state, poweredUp}
 use Rattle.rules.specs.Answers.{refusalOf, numberOf}
 use Rattle.rules.specs.Refusals.{lowest}
@@ -45,7 +45,7 @@ module _ (E : Cipher) where
       by q (inl f) = absurd (q f)
       by q (inr f) = ap (λ ss. apply ss (s .tag)) f ∙ unfold apply in refl
 
-      marked : r ≡ WrongResponse → apply (refusalStores (numberOf r)) (s .tag) ≡ put 12 (1 ∷ []) (s .tag)
+      marked : r ≡ WrongResponse → apply (refusalStores (numberOf r)) (s .tag) ≡ put flagAt (1 ∷ []) (s .tag)
       marked q = rw q (unfold apply refusalStores in refl)
 
   pub refused-reads : RefusedReads E

@@ -4,7 +4,7 @@ use mathlib.Core.Path.{_≡_, refl, ap}
 use native.Mathlib.Omega.{arith}
 use lib.Dec.{lit<}
 use Rattle.rules.specs.Bytes.{bytesOf, put, part, numberFrom, same, zeros, xor, all, byte}
-use Rattle.rules.specs.Map.{segments, publics, counter, flag, most, managements, segmentsAt, soundness, sound, registerNo, rows, liesIn, find, placeOf}
+use Rattle.rules.specs.Map.{segments, publics, counter, flagAt, flag, most, managements, segmentsAt, soundness, sound, registerNo, rows, liesIn, find, placeOf}
 use Rattle.rules.specs.Units.{unitBytes, bit, stageOf, keyStageOf, modelOf, unitOf, nameOf, modelFits, formedness, wellFormed}
 use Rattle.rules.specs.Hosts.{readers, hostAt, hostsFrom, mostHosts, hosts, any, repeats, slotId, slotKey, slotMask, misses, readable}
 use Rattle.rules.specs.State.{Cipher, poweredUp, withRead, withWrite, withEdit, withName, withId, withPa, pinIndex, pin, owner, ownerIndex, guard, encipheredCounter, response}
@@ -46,7 +46,7 @@ computed = (
     xor-granted = refl;
     xor-changes = λ e. let z : _≡_ {A = ℕ} 0 1 = ap (λ s. byte 16384 (s .tag)) e in absurd (omega arith);
     name-granted = refl;
-    name-changes = λ e. let z : _≡_ {A = ℕ} 1 0 = ap (λ s. byte 12 (s .tag)) e in absurd (omega arith);
+    name-changes = λ e. let z : _≡_ {A = ℕ} 1 0 = ap (λ s. byte flagAt (s .tag)) e in absurd (omega arith);
   },
 )
 

@@ -13,7 +13,7 @@ use Rattle.rules.specs.declared.Register.the-variants.{Pa, Read}
 use Rattle.rules.specs.declared.Place.{Place}
 use Rattle.rules.specs.declared.Place.the-variants.{RegisterOf, Header}
 use Rattle.rules.specs.Bytes.{put, number, same, part, bytesOf}
-use Rattle.rules.specs.Map.{sound, placeOf, segments, registerAt, registerNo, counter, flag, unitAt, pinAt}
+use Rattle.rules.specs.Map.{sound, placeOf, segments, registerAt, registerNo, counter, flagAt, flag, unitAt, pinAt}
 use Rattle.rules.specs.Units.{wellFormed, unitBytes, unitOf, formedness}
 use Rattle.rules.specs.Hosts.{Host}
 use Rattle.rules.specs.State.{Cipher, State, withPa, pin, pinIndex, response, withRead, encipheredCounter}
@@ -60,7 +60,7 @@ pa-written E s pa w l =
 -- ---- 2. the counter
 
 abbrev countedUp : List ℕ → List ℕ → List ℕ
-countedUp next t = put 12 (0 ∷ []) (put 4 next t)
+countedUp next t = put flagAt (0 ∷ []) (put 4 next t)
 
 counter-written : (E : Cipher) (s : State) (next : List ℕ) → sound (s .tag) ≡ true → length next ≡ 8
     → number next ≡ counter (s .tag) + 1
@@ -78,7 +78,7 @@ read-validated : (E : Cipher) (s : State) (bs : List ℕ) (i : ℕ) → sound (s
     → flag (s .tag) ≡ 0
     → pinIndex (s .session) ≡ i → i ≤ 255 → bs ≡ response E (pin (s .tag) i) (s .tag)
     → (reply E s (write (registerAt 0) bs) ≡ done)
-    × (after E s (write (registerAt 0) bs) ≡ record { tag = put 12 (1 ∷ []) (s .tag); session = withRead i (s .session) })
+    × (after E s (write (registerAt 0) bs) ≡ record { tag = put flagAt (1 ∷ []) (s .tag); session = withRead i (s .session) })
 unfolding registerNo writeStores registerStores writeSession registerSession apply
 read-validated E s bs i w l f q m e =
     rw q at (write-done E s (RegisterOf Read) (registerAt 0) bs w (omega arith) (omega arith)
@@ -108,26 +108,26 @@ unfolding flag
 counter-facts next t w l =
     let g = sound-long t w in (
       sound-flag 0 (put 4 next t) (omega arith) (sound-put 4 next t (omega arith) (omega arith) (omega arith) ∙ w),
-      byte-put 12 0 (put 4 next t) (rw (length-put 4 next t) (omega arith)),
-      part-put 4 8 12 (0 ∷ []) (put 4 next t) (omega arith) ∙ rw l at (part-put-same 4 next t (omega arith)),
+      byte-put flagAt 0 (put 4 next t) (rw (length-put 4 next t) (omega arith)),
+      part-put 4 8 flagAt (0 ∷ []) (put 4 next t) (omega arith) ∙ rw l at (part-put-same 4 next t (omega arith)),
     )
 
 -- a part behind the flag is as it was
 away : (next t : List ℕ) (a n : ℕ) → length next ≡ 8 → 13 ≤ a
-    → (part a n (countedUp next t) ≡ part a n t) × (part a n (put 12 (1 ∷ []) (countedUp next t)) ≡ part a n t)
+    → (part a n (countedUp next t) ≡ part a n t) × (part a n (put flagAt (1 ∷ []) (countedUp next t)) ≡ part a n t)
 away next t a n l h =
-    let e = part-put a n 12 (0 ∷ []) (put 4 next t) (omega arith) ∙ part-put a n 4 next t (omega arith) in
-    (e, part-put a n 12 (1 ∷ []) (countedUp next t) (omega arith) ∙ e)
+    let e = part-put a n flagAt (0 ∷ []) (put 4 next t) (omega arith) ∙ part-put a n 4 next t (omega arith) in
+    (e, part-put a n flagAt (1 ∷ []) (countedUp next t) (omega arith) ∙ e)
 
 fourth : (E : Cipher) (t next : List ℕ) (v : Session) (k a n room : ℕ) (rest : List ℕ) → HostMayRead t k a n room rest
     → length next ≡ 8 → v .read ≡ unitOf (unitBytes t k) .read
-    → reply E (record { tag = put 12 (1 ∷ []) (countedUp next t); session = v }) (read a n room) ≡ gives (part a n t)
+    → reply E (record { tag = put flagAt (1 ∷ []) (countedUp next t); session = v }) (read a n room) ≡ gives (part a n t)
 unfolding unitBytes
 fourth E t next v k a n room rest h ln i =
     let g = sound-long t (h .tag-sound) .0 in
-    let t3 = put 12 (1 ∷ []) (countedUp next t) in
+    let t3 = put flagAt (1 ∷ []) (countedUp next t) in
     let segs : segments t3 ≡ segments t =
-    segments-put 12 (1 ∷ []) (countedUp next t) (omega arith) ∙ segments-put 12 (0 ∷ []) (put 4 next t) (omega arith)
+    segments-put flagAt (1 ∷ []) (countedUp next t) (omega arith) ∙ segments-put flagAt (0 ∷ []) (put 4 next t) (omega arith)
     ∙ segments-put 4 next t (omega arith) in
     let u : unitBytes t3 k ≡ unitBytes t k = away next t (unitAt k) 32 ln (omega arith) .1 in
     segment-read E (record { tag = t3; session = v }) k a n room

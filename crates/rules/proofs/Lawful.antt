@@ -19,7 +19,7 @@ use Rattle.rules.specs.declared.Register.the-variants.{Write, Read, Edit
 use Rattle.rules.specs.declared.Place.{Place}
 use Rattle.rules.specs.declared.Place.the-variants.{Segment, RegisterOf, Header, Hidden, Pins, Readers, UnitOf, Spare, Public}
 use Rattle.rules.specs.Bytes.{part, put, number, bytesOf, Apart}
-use Rattle.rules.specs.Map.{pinAt, unitAt, segmentAt, segmentsAt, sound, segments, publics, readersAt}
+use Rattle.rules.specs.Map.{flagAt, pinAt, unitAt, segmentAt, segmentsAt, sound, segments, publics, readersAt}
 use Rattle.rules.specs.Units.{unitOf, unitBytes}
 use Rattle.rules.specs.Hosts.{Host, hosts, hostSlotAt, rowAt}
 use Rattle.rules.specs.State.{Cipher, State, pinIndex}
@@ -43,7 +43,7 @@ pub record HostOf (t : List ℕ) (k : ℕ) : Type 0 where
 -- a store of `ys` at `x` by a command on the `n` bytes at `a` in the place `p` of the tag `t`
 pub data LawfulAt (t : List ℕ) (p : Place) (a n x : ℕ) (ys : List ℕ) : Type 0 where
   to-counter : sort p ≤ 4 → x ≡ 4 → length ys ≡ 8 → LawfulAt t p a n x ys
-  to-flag : sort p ≤ 4 → (v : ℕ) → v ≤ 1 → x ≡ 12 → ys ≡ v ∷ [] → LawfulAt t p a n x ys
+  to-flag : sort p ≤ 4 → (v : ℕ) → v ≤ 1 → x ≡ flagAt → ys ≡ v ∷ [] → LawfulAt t p a n x ys
   to-pin : sort p ≤ 4 → (i : ℕ) → 1 ≤ i → i ≤ 255 → x ≡ pinAt i → length ys ≡ 16 → LawfulAt t p a n x ys
   to-bytes : unitAt 0 ≤ a → x ≡ a → length ys ≡ n → LawfulAt t p a n x ys
   to-unit : (k : ℕ) → p ≡ Segment k → unitOf (unitBytes t k) .model ≡ WriteOnce → x ≡ unitAt k → length ys ≡ 1

@@ -8,7 +8,7 @@ use lib.ListN.{length, replicate, length-replicate, getD-replicate, take, drop}
 use lib.Dec.{eqb}
 use borrow.Author.Tests.{leb-true, eqb-true, eq-eqb, le-leb}
 use Rattle.rules.specs.Bytes.{zeros, part, put, number, numberFrom, Apart}
-use Rattle.rules.specs.Map.{most, unitAt, segmentsAt, segments, managements, segmentAt, publics, flag, pinAt, sound, soundness}
+use Rattle.rules.specs.Map.{most, unitAt, segmentsAt, segments, managements, segmentAt, publics, flagAt, flag, pinAt, sound, soundness}
 use Rattle.rules.specs.Claims.{Sizes, SizesReached, SoundTag, SoundIs}
 use Rattle.rules.proofs.Tests.{and-true, all-true, all-and, all-none}
 use Rattle.rules.proofs.BytesLaws.{length-part, part-put, byte-put-out, byte-put, length-put}
@@ -84,13 +84,13 @@ pub publics-put : (a : ℕ) (bs t : List ℕ) → Apart a (length bs) 0 4 → pu
 unfolding publics
 publics-put a bs t h = ap number (part-put 2 2 a bs t (λ i p q u v. h i p q (omega arith) v))
 
-pub flag-put : (a : ℕ) (bs t : List ℕ) → Apart a (length bs) 12 4 → flag (put a bs t) ≡ flag t
+pub flag-put : (a : ℕ) (bs t : List ℕ) → Apart a (length bs) flagAt 4 → flag (put a bs t) ≡ flag t
 unfolding flag
-flag-put a bs t h = byte-put-out a bs t 12 (λ p q. h 12 p q (omega arith) (omega arith))
+flag-put a bs t h = byte-put-out a bs t flagAt (λ p q. h flagAt p q (omega arith) (omega arith))
 
 -- ---- soundness after a store: elsewhere, and at the flag
 
-pub sound-put : (a : ℕ) (bs t : List ℕ) → Apart a (length bs) 0 4 → Apart a (length bs) 12 4
+pub sound-put : (a : ℕ) (bs t : List ℕ) → Apart a (length bs) 0 4 → Apart a (length bs) flagAt 4
     → Apart a (length bs) (pinAt 0) 16 → sound (put a bs t) ≡ sound t
 unfolding sound soundness
 sound-put a bs t h0 h1 h2 =
@@ -103,22 +103,22 @@ sound-put a bs t h0 h1 h2 =
       part-put (pinAt 0) 16 a bs t h2,
     )
 
-pub sound-flag : (v : ℕ) (t : List ℕ) → v ≤ 1 → sound t ≡ true → sound (put 12 (v ∷ []) t) ≡ true
+pub sound-flag : (v : ℕ) (t : List ℕ) → v ≤ 1 → sound t ≡ true → sound (put flagAt (v ∷ []) t) ≡ true
 unfolding flag
 sound-flag v t l e =
     let f = sound-facts t e in
     let g = sound-long t e in
-    let a = segments-put 12 (v ∷ []) t (omega arith) in
-    let p = publics-put 12 (v ∷ []) t (omega arith) in
-    sound-from (put 12 (v ∷ []) t)
+    let a = segments-put flagAt (v ∷ []) t (omega arith) in
+    let p = publics-put flagAt (v ∷ []) t (omega arith) in
+    sound-from (put flagAt (v ∷ []) t)
     (record {
-      long = rw (a, p, length-put 12 (v ∷ []) t) (f .long);
+      long = rw (a, p, length-put flagAt (v ∷ []) t) (f .long);
       least = rw a (f .least);
       most-segments = rw a (f .most-segments);
       most-publics = rw p (f .most-publics);
-      flagged = rw (byte-put 12 v t (omega arith)) l;
-      padding = rw (part-put 13 3 12 (v ∷ []) t (omega arith)) (f .padding);
-      pin-zero = rw (part-put (pinAt 0) 16 12 (v ∷ []) t (omega arith)) (f .pin-zero);
+      flagged = rw (byte-put flagAt v t (omega arith)) l;
+      padding = rw (part-put 13 3 flagAt (v ∷ []) t (omega arith)) (f .padding);
+      pin-zero = rw (part-put (pinAt 0) 16 flagAt (v ∷ []) t (omega arith)) (f .pin-zero);
     })
 
 -- ---- soundness in document 01's words

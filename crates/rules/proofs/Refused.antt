@@ -17,7 +17,7 @@ use Rattle.rules.specs.declared.Place.the-variants.{Header, Hidden, Regi
 use Rattle.rules.specs.declared.Refusal.{Refusal}
 use Rattle.rules.specs.declared.Refusal.the-variants.{Unsound, Count, Outside, NeverTaken, Malformed, Forbidden, OtherPin, OtherName, BadRegister, FlagUsed, WrongResponse, NotNext, BadEdit, OtherModel, Unreadable, Repeated, BadInsertion}
 use Rattle.rules.specs.Bytes.{put, byte}
-use Rattle.rules.specs.Map.{placeOf, sound, flag}
+use Rattle.rules.specs.Map.{placeOf, sound, flagAt, flag}
 use Rattle.rules.specs.Units.{unitBytes, unitOf}
 use Rattle.rules.specs.State.{Cipher, State}
 use Rattle.rules.specs.Answers.{numberOf}
@@ -235,11 +235,11 @@ eleven-sound E s c e = by (sound (s .tag)) refl
     by false h = let x = lowest-given E s c .lowest-given 11 e .1 1 (unsound-applies E s c 11 h e) in absurd (omega arith)
 
 refused-tag : (E : Cipher) (s : State) (c : Command) (n : ℕ) → refusal E s c ≡ some n
-    → after E s c .tag ≡ cond (eqb n 11) (put 12 (1 ∷ []) (s .tag)) (s .tag)
+    → after E s c .tag ≡ cond (eqb n 11) (put flagAt (1 ∷ []) (s .tag)) (s .tag)
 unfolding after afterBy refusalStores
 refused-tag E s c n e = rw e (by (eqb n 11))
   where
-    by : (b : Bool) → apply (cond b (setFlag 1 ∷ []) []) (s .tag) ≡ cond b (put 12 (1 ∷ []) (s .tag)) (s .tag)
+    by : (b : Bool) → apply (cond b (setFlag 1 ∷ []) []) (s .tag) ≡ cond b (put flagAt (1 ∷ []) (s .tag)) (s .tag)
     by true = unfold apply in refl
     by false = unfold apply in refl
 
@@ -251,7 +251,7 @@ refused-changes-nothing E s c n e =
       number-alone = answer;
       same-output = λ out. ap (λ r. filled r out) answer ∙ (unfold filled in refl);
       same-session = (unfold after afterBy in rw e);
-      same-tag = λ h. t ∙ ap (λ b. cond b (put 12 (1 ∷ []) (s .tag)) (s .tag)) (ne-eqb n 11 h);
+      same-tag = λ h. t ∙ ap (λ b. cond b (put flagAt (1 ∷ []) (s .tag)) (s .tag)) (ne-eqb n 11 h);
       flag-set = λ h. flagged h t;
       other-bytes = λ i h. ap (byte i) t ∙ others i h (eqb n 11);
       same-length = ap length t ∙ as-long (eqb n 11);
@@ -260,18 +260,18 @@ refused-changes-nothing E s c n e =
     answer : reply E s c ≡ refused n
     answer = refused-reply E s c n e
 
-    flagged : n ≡ 11 → after E s c .tag ≡ cond (eqb n 11) (put 12 (1 ∷ []) (s .tag)) (s .tag)
+    flagged : n ≡ 11 → after E s c .tag ≡ cond (eqb n 11) (put flagAt (1 ∷ []) (s .tag)) (s .tag)
         → flag (after E s c .tag) ≡ 1
     flagged h t =
         let w = eleven-sound E s c (e ∙ ap some h) in
         let g = sound-long (s .tag) w in
-        ap flag (t ∙ ap (λ b. cond b (put 12 (1 ∷ []) (s .tag)) (s .tag)) (eq-eqb n 11 h))
-        ∙ (unfold flag in byte-put 12 1 (s .tag) (omega arith))
+        ap flag (t ∙ ap (λ b. cond b (put flagAt (1 ∷ []) (s .tag)) (s .tag)) (eq-eqb n 11 h))
+        ∙ (unfold flag in byte-put flagAt 1 (s .tag) (omega arith))
 
-    others : (i : ℕ) → i ≢ 12 → (b : Bool) → byte i (cond b (put 12 (1 ∷ []) (s .tag)) (s .tag)) ≡ byte i (s .tag)
-    others i h true = byte-put-out 12 (1 ∷ []) (s .tag) i (λ p q. h (omega arith))
+    others : (i : ℕ) → i ≢ flagAt → (b : Bool) → byte i (cond b (put flagAt (1 ∷ []) (s .tag)) (s .tag)) ≡ byte i (s .tag)
+    others i h true = byte-put-out flagAt (1 ∷ []) (s .tag) i (λ p q. h (omega arith))
     others i h false = refl
 
-    as-long : (b : Bool) → length (cond b (put 12 (1 ∷ []) (s .tag)) (s .tag)) ≡ length (s .tag)
-    as-long true = length-put 12 (1 ∷ []) (s .tag)
+    as-long : (b : Bool) → length (cond b (put flagAt (1 ∷ []) (s .tag)) (s .tag)) ≡ length (s .tag)
+    as-long true = length-put flagAt (1 ∷ []) (s .tag)
     as-long false = refl

@@ -5,6 +5,7 @@ use mathlib.Core.List.{List, [], _∷_}
 use native.Mathlib.Omega.{arith}
 use Rattle.octets.proofs.Laws.{set-put, store-back, xor-back}
 use Rattle.rules.specs.Bytes.{put}
+use Rattle.rules.specs.Map.{flagAt}
 use Rattle.rules.specs.Effects.{apply}
 use Rattle.writes.specs.declared.judging.Verdict.{Verdict}
 use Rattle.writes.specs.Verdict.{Fits, storesBy}
@@ -158,8 +159,8 @@ returns-5 c =
     let e = told .enum-told3 .given .1 in
     let f = fits s _ e in
     made s _ _ e
-    (set-put 12 0 _
-    ∙ ap (put 12 (0 ∷ []))
+    (set-put flagAt 0 _
+    ∙ ap (put flagAt (0 ∷ []))
     (store-back (a .at) (a .«data» .now) (a .tag .now) _ f (c .before .before .store2 .ensures)))
 
 returns-6 : tie.Need-returns-6

@@ -2,6 +2,7 @@
 use mathlib.Core.Path.{ap, sym, _∙_}
 use Rattle.octets.proofs.Laws.{set-put}
 use Rattle.rules.specs.Answers.{numberOf}
+use Rattle.rules.specs.Map.{flagAt}
 use Rattle.rules.specs.Effects.{apply, refusalStores}
 use Rattle.writes.proofs.ActLaws.{quiet}
 use borrow.Author.Needs.{needs}
@@ -21,7 +22,7 @@ returns : tie.Need-returns
 unfolding apply refusalStores
 returns c =
     let t = c .before .before .args .tag .now in
-    set-put 12 1 t ∙ sym (ap (λ r. apply (refusalStores (numberOf r)) t) (c .enum-told .given .1))
+    set-put flagAt 1 t ∙ sym (ap (λ r. apply (refusalStores (numberOf r)) t) (c .enum-told .given .1))
 
 returns-2 : tie.Need-returns-2
 unfolding apply
