@@ -1,7 +1,7 @@
 // The arguments, and the two files that are read whole. What is wrong with one is said here.
 ghost use Rattle.replay.specs.Inputs.{AtMost, Ended, Held};
 use crate::words::cannot;
-use crate::words::too_long;
+use crate::words::no_name;
 use crate::words::unreadable;
 use crate::words::wrong;
 use libc::STDIN_FILENO;
@@ -19,6 +19,10 @@ pub fn argument(number: usize, what: &[u8], buffer: &mut [u8]) -> Input
     let n = os::arg(number, buffer);
     if os::errno() != 0 {
         cannot(b"take the name of", what);
+        return Input::Failed;
+    }
+    if n == 0 {
+        no_name(what);
         return Input::Failed;
     }
     Input::Whole(n)
@@ -74,8 +78,15 @@ fn read_path(what: &[u8], path: &[u8], dash: bool, buffer: &mut [u8]) -> Input
     input
 }
 
-// The buffer has one byte more than the input may have, so that a longer one is seen.
-fn read_whole(what: &[u8], path: &[u8], dash: bool, least: usize, buffer: &mut [u8]) -> Input
+// The buffer has one byte more than the input may have, so that a longer one is seen; `excess` says so.
+fn read_whole(
+    what: &[u8],
+    path: &[u8],
+    dash: bool,
+    least: usize,
+    excess: &[u8],
+    buffer: &mut [u8],
+) -> Input
     ensures { λ r. ⌜ Ended r (now (buffer .exit)) ⌝ }
 {
     let Input::Whole(size) = read_path(what, path, dash, buffer) else {
@@ -86,32 +97,53 @@ fn read_whole(what: &[u8], path: &[u8], dash: bool, least: usize, buffer: &mut [
         return Input::Failed;
     }
     if size == buffer.len() {
-        too_long(what, path, size);
+        wrong(what, path, excess);
         return Input::Failed;
     }
     Input::Whole(size)
 }
 
-fn read_input(number: usize, what: &[u8], dash: bool, least: usize, buffer: &mut [u8]) -> Input
+fn read_input(
+    number: usize,
+    what: &[u8],
+    dash: bool,
+    least: usize,
+    excess: &[u8],
+    buffer: &mut [u8],
+) -> Input
     ensures { λ r. ⌜ Ended r (now (buffer .exit)) ⌝ }
 {
     let mut path = io::buffer();
     let Input::Whole(n) = argument(number, what, &mut path) else {
         return Input::Failed;
     };
-    read_whole(what, &path[..n], dash, least, buffer)
+    read_whole(what, &path[..n], dash, least, excess, buffer)
 }
 
 // The image that the first argument names.
 pub fn read_image(image: &mut [u8; 65537]) -> Input
     ensures { λ r. ⌜ Held r (now (image .exit)) × AtMost 65536 r ⌝ }
 {
-    read_input(1, b"the image", false, 1, image)
+    read_input(
+        1,
+        b"the image",
+        false,
+        1,
+        b"it has more than 65536 bytes",
+        image,
+    )
 }
 
 // The log that the second argument names. It may be empty.
 pub fn read_log(log: &mut [u8; 1048577]) -> Input
     ensures { λ r. ⌜ Held r (now (log .exit)) × AtMost 1048576 r ⌝ }
 {
-    read_input(2, b"the log", true, 0, log)
+    read_input(
+        2,
+        b"the log",
+        true,
+        0,
+        b"it has more than 1048576 bytes",
+        log,
+    )
 }

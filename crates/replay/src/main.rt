@@ -1,6 +1,7 @@
-// `replay IMAGE LOG [OUT]` runs a command log over a tag image. The replies go to standard output, one a line in capital
-// hexadecimal; what stopped the run goes to standard error; OUT becomes the image after the run. IMAGE is only read.
-// A Rattle program has no exit status: whoever wants one looks for a line that begins with `replay: ` on standard error.
+// What ./replay starts: a command log is run over a tag image. The arguments are IMAGE, LOG and, where the image after the
+// run is to be kept, the name of a new file for it. IMAGE is only read. The replies go to standard output, one a line in
+// capital hexadecimal; what stopped the run goes to standard error. A Rattle program has no exit status: ./replay looks
+// for a line that begins with `replay: ` on standard error.
 mod input;
 mod keeping;
 mod part;
@@ -10,30 +11,9 @@ mod words;
 ghost use Prim.Native.Nat.{_≤_};
 ghost use lib.ListN.{length};
 use input::Input;
-use libc::STDERR_FILENO;
-use libc::STDOUT_FILENO;
 use words::say;
 
-fn print_usage(fd: i32) {
-    io::write_all(fd, b"usage: replay IMAGE LOG [OUT]\n\n");
-    io::write_all(fd, b"Runs a command log over a tag image.\n\n");
-    io::write_all(fd, b"IMAGE  the tag's bytes, at most 65536\n");
-    io::write_all(
-        fd,
-        b"LOG    the commands, at most 1048576 bytes; - is standard input\n",
-    );
-    io::write_all(
-        fd,
-        b"OUT    the image after the run: a new file that takes this name, which\n       may be IMAGE's; without OUT no file is written\n\n",
-    );
-    io::write_all(
-        fd,
-        b"The replies go to standard output, one a line in hexadecimal;\n",
-    );
-    io::write_all(fd, b"what stopped the run goes to standard error.\n");
-}
-
-// Where the replies could not be written, no OUT is.
+// Where the replies could not be written, no image is.
 fn run_and_keep(image: &mut [u8], log: &[u8], keeps: bool)
     requires { ⌜ length (now log) ≤ 1048576 ⌝ }
 {
@@ -63,13 +43,8 @@ fn replay(keeps: bool) {
 
 fn main() {
     let count = os::arg_count();
-    if count <= 1 {
-        print_usage(STDOUT_FILENO);
-        return;
-    }
     if (count < 3) | (4 < count) {
-        say(b"replay: it takes two or three names\n");
-        print_usage(STDERR_FILENO);
+        say(b"replay: it takes IMAGE LOG [NEW]; ./replay says what these are\n");
         return;
     }
     replay(count == 4);

@@ -25,25 +25,20 @@ pub(crate) fn unreadable(what: &[u8], path: &[u8]) {
     os::fail(path);
 }
 
-fn say_unfit(what: &[u8], path: &[u8]) {
+// What is wrong with a file that was read.
+pub(crate) fn wrong(what: &[u8], path: &[u8], fault: &[u8]) {
     say(b"replay: cannot use ");
     say(what);
     say(b" ");
     say(path);
     say(b": ");
-}
-
-// What is wrong with a file that was read.
-pub(crate) fn wrong(what: &[u8], path: &[u8], fault: &[u8]) {
-    say_unfit(what, path);
     say(fault);
     say(b"\n");
 }
 
-// It has this many bytes or more, where fewer are taken.
-pub(crate) fn too_long(what: &[u8], path: &[u8], size: usize) {
-    say_unfit(what, path);
-    say(b"it has ");
-    say_number(size);
-    say(b" bytes or more, and fewer are taken\n");
+// An argument that is there and is empty.
+pub(crate) fn no_name(what: &[u8]) {
+    say(b"replay: the name of ");
+    say(what);
+    say(b" is empty\n");
 }

@@ -7,6 +7,9 @@ use Rattle.replay.proofs.input.read_log.Tie as tie
 slice-aggregate-read-input : tie.Need-slice-aggregate-read-input
 slice-aggregate-read-input c = search needs
 
+slice-aggregate-read-input-2 : tie.Need-slice-aggregate-read-input-2
+slice-aggregate-read-input-2 c = search needs
+
 read-input-requires : tie.Need-read-input-requires
 read-input-requires c κs = search needs
 
@@ -16,4 +19,4 @@ returns c =
     ended (got .result) 1048576 _ (search needs) (got .ensures)
 
 pub read-log-spec : {M : Type 1} → statement M
-read-log-spec = tie.close (tie.spec slice-aggregate-read-input read-input-requires returns)
+read-log-spec = tie.close (tie.spec slice-aggregate-read-input slice-aggregate-read-input-2 read-input-requires returns)

@@ -32,8 +32,8 @@ same-length-2 c = search needs
 returns-2 : tie.Need-returns-2
 returns-2 c = search needs
 
-too-long-requires : tie.Need-too-long-requires
-too-long-requires c κs = search needs
+wrong-requires-2 : tie.Need-wrong-requires-2
+wrong-requires-2 c κs = search needs
 
 same-length-3 : tie.Need-same-length-3
 same-length-3 c = search needs
@@ -63,7 +63,7 @@ read-whole-spec =
     wrong-requires
     same-length-2
     returns-2
-    too-long-requires
+    wrong-requires-2
     same-length-3
     returns-3
     same-length-4

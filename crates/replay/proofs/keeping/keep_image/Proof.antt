@@ -1,5 +1,4 @@
 -- `replay::keeping::keep_image` lends the argument, which is within its buffer. Assumes nothing.
-use native.Mathlib.Omega.{arith}
 use borrow.Author.Needs.{needs}
 use Rattle.replay.proofs.Laws.{held}
 use Rattle.replay.proofs.keeping.keep_image.Statement.{statement}
@@ -26,21 +25,18 @@ enum-told c = search needs
 returns : tie.Need-returns
 returns c = search needs
 
-array-share-prefix-out : tie.Need-array-share-prefix-out
-array-share-prefix-out c =
+array-share-prefix-name : tie.Need-array-share-prefix-name
+array-share-prefix-name c =
     let got = c .before in
     held _ _ _ (got .n .given .1) (got .before .before .before .argument .ensures) .0
 
-slice-aggregate-keep-as : tie.Need-slice-aggregate-keep-as
-slice-aggregate-keep-as c =
+slice-aggregate-write-new : tie.Need-slice-aggregate-write-new
+slice-aggregate-write-new c =
     let got = c .before .before in
     held _ _ _ (got .n .given .1) (got .before .before .before .argument .ensures) .1
 
-keep-as-requires : tie.Need-keep-as-requires
-keep-as-requires c κs =
-    let got = c .before .before in
-    let n = held _ _ _ (got .n .given .1) (got .before .before .before .argument .ensures) in
-    omega (arith, n .0, n .1)
+write-new-requires : tie.Need-write-new-requires
+write-new-requires c κs = search needs
 
 returns-2 : tie.Need-returns-2
 returns-2 c = search needs
@@ -56,7 +52,7 @@ keep-image-spec =
     enum-known-n
     enum-told
     returns
-    array-share-prefix-out
-    slice-aggregate-keep-as
-    keep-as-requires
+    array-share-prefix-name
+    slice-aggregate-write-new
+    write-new-requires
     returns-2)
