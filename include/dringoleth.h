@@ -11,10 +11,12 @@
  *     the same call, and nobody else touches what is lent until the call returns.
  *
  * The library keeps nothing between calls, allocates nothing, has no global state, starts no thread and needs memcpy
- * alone. Calls on different tags and sessions may run at the same time. It is built for x86-64 and System V calls.
+ * alone. A call needs at most DRINGOLETH_STACK_BYTES of stack. Calls on different tags and sessions may run at the same
+ * time. It is built for x86-64 and System V calls.
  *
- * It works on memory. Where the tag's memory lasts, power may fail in the middle of a call: a caller that must survive
- * that keeps a copy until the call has returned.
+ * Power that fails within a call is the caller's matter. The library works on memory and stores byte by byte: if the
+ * call does not return, some of its bytes may be stored and others not, in the tag and in the session. A caller whose
+ * tag lasts keeps a copy until the call has returned.
  */
 #ifndef DRINGOLETH_H
 #define DRINGOLETH_H
@@ -42,6 +44,10 @@ extern "C" {
  */
 #define DRINGOLETH_SESSION_BYTES 54
 
+/* The stack that a call needs at most, its arguments included. Measured, over calls and runs of every command: 1,080 by
+ * dringoleth_run, 856 by dringoleth_write, 704 and less by the others (bindings/c/stack.c). */
+#define DRINGOLETH_STACK_BYTES 1280
+
 /* What a command answers: 0, or the number of the lowest refusal that applies. A refused command changes no byte of
  * tag, session or output, except that DRINGOLETH_WRONG_RESPONSE sets the usage flag, byte 12 of the tag, to 1. */
 enum {
@@ -55,7 +61,8 @@ enum {
                                        touches a slot that it may not */
     DRINGOLETH_OTHER_PIN = 7,       /* the validated PIN index is not the unit's */
     DRINGOLETH_OTHER_NAME = 8,      /* the session's name is not the unit's */
-    DRINGOLETH_BAD_REGISTER = 9,    /* a register write that is not 16 bytes, or an index in PA that is too high */
+    DRINGOLETH_BAD_REGISTER = 9,    /* a register write that is not 16 bytes, an index in PA that is too high, or a
+                                       COMMIT where PA's PIN index is 0 */
     DRINGOLETH_FLAG_USED = 10,      /* this value of the roll-back counter was used already */
     DRINGOLETH_WRONG_RESPONSE = 11, /* the response or the guard is wrong */
     DRINGOLETH_NOT_NEXT = 12,       /* not one aligned slot, or neither the next value nor the one stored */
