@@ -42,7 +42,7 @@ const REFUSALS: [(Refusal, &str); 16] = [
     (Refusal::OtherName, "the session's name is not the unit's"),
     (
         Refusal::BadRegister,
-        "a register write that is not 16 bytes, or an index in PA that is too high",
+        "a register write that is not 16 bytes, an index in PA that is too high, or a COMMIT to PIN index 0",
     ),
     (
         Refusal::FlagUsed,
