@@ -179,7 +179,7 @@ fn run_in_words(run: Run) -> String {
 }
 
 /// Where two byte lists of one length first differ, in words.
-fn first_difference(of: &str, left: &[u8], right: &[u8], names: [&str; 2]) -> Result<(), String> {
+pub fn first_difference(of: &str, left: &[u8], right: &[u8], names: [&str; 2]) -> Result<(), String> {
     if left == right {
         return Ok(());
     }

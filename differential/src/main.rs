@@ -92,8 +92,8 @@ fn run(given: &Arguments) -> bool {
         (Ok(()), true) => "no difference",
     };
     println!(
-        "{} commands, {} runs over logs, seed {}: {end}",
-        runs.commands, runs.log_runs, given.seed
+        "{} commands, {} runs over logs, {} changed lists, seed {}: {end}",
+        runs.commands, runs.log_runs, runs.changed_lists, given.seed
     );
     result.is_ok() && met
 }

@@ -57,6 +57,12 @@ fn commands(case: &Case) -> String {
     }
     if let Some(log) = &case.log {
         text += &format!("run over that log into an output of {}\n", plural(log.room, "byte"));
+        if !log.then.is_empty() {
+            text += &format!("after a 16 on with outputs of these lengths in turn: {:?}\n", log.then);
+        }
+    }
+    if let Some(variation) = &case.variation {
+        text += &format!("and once more {}\n", variation.words());
     }
     text
 }
@@ -75,7 +81,9 @@ pub fn difference(seed: u64, found: &Found, small: &Case, failure: &Failure) -> 
     let mut text = format!("difference: seed {seed}, case {}", found.number);
     match found.case.commands.get(found.failure.command) {
         Some(command) => text += &format!(", command {}: {}", found.failure.command + 1, command.words()),
-        None => text += ", run over a log",
+        None if found.case.variation.is_some() => text += ", the list changed",
+        None if found.case.log.is_some() => text += ", run over a log",
+        None => text += ", after the list",
     }
     text += &format!("\n  {}\n", found.failure.what);
     text += &format!(

@@ -4,9 +4,11 @@ use crate::aim::{Aim, View};
 use crate::cases::{Case, Failure, Log};
 use crate::commands::Command;
 use crate::compare::{Lending, Pair};
-use crate::images::{self, Image};
+use crate::demand;
+use crate::images::{self, Image, LARGEST};
 use crate::logs;
 use crate::map::{self, Place};
+use crate::outcome::{Calls, Outcome};
 use crate::random::Random;
 use crate::seats;
 use crate::sessions::{self, Session, POWER_UP};
@@ -14,6 +16,11 @@ use crate::sides::Side;
 use crate::spans;
 use crate::table;
 use crate::tally::Tally;
+use crate::variations;
+
+/// Which cases get the largest image: few, since it is slow, but surely some.
+const LARGEST_EVERY: u64 = 500;
+const LARGEST_FIRST: u64 = 100;
 
 /// A case that failed, up to the command that did.
 #[derive(Debug)]
@@ -29,6 +36,7 @@ pub struct Runs<'a> {
     pub tally: Tally,
     pub commands: u64,
     pub log_runs: u64,
+    pub changed_lists: u64,
 }
 
 /// One case in the making: what it starts from, and the commands so far.
@@ -38,13 +46,17 @@ struct Making {
     session: Session,
     aim: Aim,
     commands: Vec<Command>,
+    calls: Calls,
 }
 
 impl Making {
     fn new(seed: u64, number: u64) -> Making {
         let mut random = Random::of_case(seed, number);
         let damaged = random.percent(12);
-        let image = images::some_image(&mut random, damaged);
+        let image = match number % LARGEST_EVERY {
+            LARGEST_FIRST => images::of_map(&mut random, LARGEST),
+            _ => images::some_image(&mut random, damaged),
+        };
         let session = start_session(&mut random, &image);
         Making {
             aim: Aim::new(image.map),
@@ -52,12 +64,17 @@ impl Making {
             image,
             session,
             commands: Vec::new(),
+            calls: Calls::default(),
         }
     }
 
-    /// Few commands where all are refused.
+    /// Few commands where all are refused, many on the largest image.
     fn length(&mut self, most: usize) -> usize {
-        self.random.below(if self.image.damage.is_some() { 12 } else { most })
+        match &self.image {
+            image if image.damage.is_some() => self.random.below(12),
+            image if image.map == LARGEST => most + self.random.below(most),
+            _ => self.random.below(most),
+        }
     }
 
     fn next(&mut self, pair: &Pair) -> Command {
@@ -80,6 +97,7 @@ impl Making {
             session: self.session,
             commands: self.commands,
             log: None,
+            variation: None,
         }
     }
 }
@@ -106,6 +124,7 @@ impl<'a> Runs<'a> {
             tally: Tally::default(),
             commands: 0,
             log_runs: 0,
+            changed_lists: 0,
         }
     }
 
@@ -119,10 +138,10 @@ impl<'a> Runs<'a> {
         Ok(())
     }
 
-    /// One case with at most this many commands: every third is said in a log too.
+    /// One case with at most this many commands: every third is said in a log too, and each is carried out changed.
     pub fn case(&mut self, number: u64, most: u64) -> Result<(), Box<Found>> {
         let mut making = Making::new(self.seed, number);
-        self.tally.image(making.image.damage);
+        self.tally.image(&making.image);
         self.pair.start(&making.image.bytes, &making.session);
         let for_log = number % 3 == 2;
         let length = match for_log {
@@ -136,10 +155,12 @@ impl<'a> Runs<'a> {
                 return Err(Box::new(Found { number, case, failure }));
             }
         }
-        if for_log {
-            return self.logs(making, number);
+        let counted = demand::check_counts(&making.image.bytes, &making.calls, self.pair.tag());
+        match counted {
+            Err(what) => Err(found(number, &making.case(), what)),
+            Ok(()) if for_log => self.logs(making, number),
+            Ok(()) => self.changed_calls(making, number),
         }
-        Ok(())
     }
 
     fn command(&mut self, making: &mut Making, for_log: bool) -> Result<(), Failure> {
@@ -148,12 +169,15 @@ impl<'a> Runs<'a> {
         self.count_ill_formed(making, &command);
         let row = table::row_of(self.pair.tag(), &command);
         let seat = seats::seat_of(self.pair.tag(), &command);
-        let answer = self.pair.call(&command);
+        let answer = making.calls.call(&mut self.pair, &command);
         let index = making.commands.len();
         making.commands.push(command);
         let answer = answer.map_err(|what| Failure { command: index, what })?;
         self.tally.call(&making.commands[index], row, answer);
         seat.inspect(|seat| self.tally.seat(*seat, answer));
+        if making.image.map == LARGEST && answer == 0 {
+            self.tally.in_largest(table::place_of(LARGEST, &making.commands[index]));
+        }
         self.commands += 1;
         Ok(())
     }
@@ -175,28 +199,78 @@ impl<'a> Runs<'a> {
         let last = making.next(&self.pair);
         let tail = logs::some_tail(&mut making.random, last);
         let mut random = Random::new(making.random.number());
+        let calls = std::mem::take(&mut making.calls);
+        let due = calls.clone().outcome(&self.pair);
         let mut case = making.case();
         let commands = case.log_bytes().expect("made for a log").len();
         let room = logs::much_room(&mut random, commands + tail.len());
-        case.log = Some(Log { tail, room });
-        let enough = self.log_run(&case, logs::MUCH, number)?;
+        let then = Vec::new();
+        case.log = Some(Log { tail, room, then });
+        let enough = self.log_run(&case, &due, logs::MUCH, number)?;
         for _ in 0..2 {
             let class = random.below(logs::MUCH);
             let Some(room) = logs::some_room(&mut random, class, enough) else {
                 continue;
             };
-            case.log.as_mut().expect("just set").room = room;
-            self.log_run(&case, class, number)?;
+            let log = case.log.as_mut().expect("just set");
+            log.room = room;
+            log.then = logs::some_rooms(&mut random);
+            self.log_run(&case, &due, class, number)?;
+        }
+        self.changed_logs(&mut random, case, &calls, number)
+    }
+
+    /// The commands once more as calls, with something of demand 3 changed.
+    fn changed_calls(&mut self, mut making: Making, number: u64) -> Result<(), Box<Found>> {
+        let calls = std::mem::take(&mut making.calls);
+        let due = calls.clone().outcome(&self.pair);
+        let mut random = Random::new(making.random.number());
+        self.changed(&mut random, making.case(), &calls, &due, number)
+    }
+
+    /// The same in logs, with nothing behind the commands and room enough, so that nothing stops them.
+    fn changed_logs(
+        &mut self,
+        random: &mut Random,
+        mut case: Case,
+        calls: &Calls,
+        number: u64,
+    ) -> Result<(), Box<Found>> {
+        case.log = Some(Log::default());
+        let due = case
+            .as_it_is(&mut self.pair, calls)
+            .map_err(|what| found(number, &case, what))?;
+        self.changed(random, case, calls, &due, number)
+    }
+
+    fn changed(
+        &mut self,
+        random: &mut Random,
+        mut case: Case,
+        calls: &Calls,
+        due: &Outcome,
+        number: u64,
+    ) -> Result<(), Box<Found>> {
+        let copies = variations::some_copies(random, &case.image, calls);
+        let exchanges = variations::some_exchanges(random, calls);
+        for variation in copies.into_iter().chain(exchanges) {
+            case.variation = Some(variation);
+            let changed = case.changed(&mut self.pair, calls, due);
+            let (entries, met) = changed.map_err(|what| found(number, &case, what))?;
+            self.tally.changed(case.log.is_some(), &entries, calls, &met);
+            self.changed_lists += 1;
         }
         Ok(())
     }
 
     /// Returns the least room with which the run would have come as far.
-    fn log_run(&mut self, case: &Case, class: usize, number: u64) -> Result<usize, Box<Found>> {
-        let (stop, walk) = case.run_log(&mut self.pair).map_err(|what| found(number, case, what))?;
-        self.tally.run(class, stop, &walk.steps);
+    fn log_run(&mut self, case: &Case, due: &Outcome, class: usize, number: u64) -> Result<usize, Box<Found>> {
+        let ran = case
+            .run_log(&mut self.pair, due)
+            .map_err(|what| found(number, case, what))?;
+        self.tally.run(class, &ran);
         self.log_runs += 1;
-        Ok(walk.enough)
+        Ok(ran.walk.enough)
     }
 }
 
@@ -204,9 +278,6 @@ fn found(number: u64, case: &Case, what: String) -> Box<Found> {
     Box::new(Found {
         number,
         case: case.clone(),
-        failure: Failure {
-            command: case.commands.len(),
-            what,
-        },
+        failure: case.at_the_end(what),
     })
 }
