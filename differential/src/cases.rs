@@ -66,16 +66,13 @@ impl Case {
     }
 
     fn carry_out(&self, pair: &mut Pair) -> Result<(), Failure> {
-        let calls = self.calls(pair)?;
-        let at_the_end = |what| self.at_the_end(what);
-        if self.variation.is_some() {
-            let due = self.as_it_is(pair, &calls).map_err(at_the_end)?;
-            self.changed(pair, &calls, &due).map_err(at_the_end)?;
-        } else if self.log.is_some() {
-            let due = calls.outcome(pair);
-            self.run_log(pair, &due).map_err(at_the_end)?;
-        }
-        Ok(())
+        let list = self.calls(pair)?;
+        let result = match (&self.variation, &self.log) {
+            (Some(variation), _) => self.changed(variation, pair, &list).map(drop),
+            (None, Some(log)) => self.run_log(log, pair, &list).map(drop),
+            (None, None) => Ok(()),
+        };
+        result.map_err(|what| self.at_the_end(what))
     }
 
     /// A failure that is of no one command.
@@ -84,35 +81,41 @@ impl Case {
         Failure { command, what }
     }
 
-    /// The commands as calls, and whether they counted right.
-    fn calls(&self, pair: &mut Pair) -> Result<Calls, Failure> {
+    /// The commands as calls, which must count right.
+    fn calls(&self, pair: &mut Pair) -> Result<Outcome, Failure> {
         pair.start(&self.image, &self.session);
         let mut calls = Calls::default();
         for (command, said) in self.commands.iter().enumerate() {
             calls.call(pair, said).map_err(|what| Failure { command, what })?;
         }
-        demand::check_counts(&self.image, &calls, pair.tag()).map_err(|what| self.at_the_end(what))?;
-        Ok(calls)
+        let list = calls.outcome(pair);
+        demand::check_counts(&self.image, &list).map_err(|what| self.at_the_end(what))?;
+        Ok(list)
     }
 
-    /// What the list comes to, in a log if the case has one.
-    pub fn as_it_is(&self, pair: &mut Pair, calls: &Calls) -> Result<Outcome, String> {
-        let outcome = variations::carried_out(self, pair, &variations::plain(self.commands.len()))?;
-        let told = Calls {
-            replies: outcome.replies.clone(),
-            spots: calls.spots.clone(),
+    /// Carries out the changed list, as calls or in a log. It must come to what the list as it is does.
+    pub fn changed(
+        &self,
+        variation: &Variation,
+        pair: &mut Pair,
+        list: &Outcome,
+    ) -> Result<(Vec<Entry>, Outcome), String> {
+        let in_log = match self.log {
+            Some(_) => Some(self.in_log(pair, list)?),
+            None => None,
         };
-        demand::check_counts(&self.image, &told, &outcome.end.0)?;
-        Ok(outcome)
+        let entries = variation.entries(&self.image, list);
+        let met = variations::carried_out(self, pair, &entries)?;
+        variations::compare(&entries, in_log.as_ref().unwrap_or(list), &met)?;
+        Ok((entries, met))
     }
 
-    /// Carries out the changed list, which must come to what is `due`: the same as the list as it is.
-    pub fn changed(&self, pair: &mut Pair, calls: &Calls, due: &Outcome) -> Result<(Vec<Entry>, Outcome), String> {
-        let variation = self.variation.as_ref().ok_or("nothing is changed")?;
-        let entries = variation.entries(&self.image, calls);
-        let met = variations::carried_out(self, pair, &entries)?;
-        variations::compare(&entries, due, &met)?;
-        Ok((entries, met))
+    /// What the list as it is comes to in a log, which must count right too.
+    fn in_log(&self, pair: &mut Pair, list: &Outcome) -> Result<Outcome, String> {
+        let mut in_log = variations::carried_out(self, pair, &variations::plain(self.commands.len()))?;
+        in_log.spots.clone_from(&list.spots);
+        demand::check_counts(&self.image, &in_log)?;
+        Ok(in_log)
     }
 
     /// What stands before each command as a call, up to one that fails.
@@ -142,14 +145,12 @@ impl Case {
 
     /// Runs the log. The replies must be what the same commands get as calls, and if it is to the end of these, tag and
     /// session must be what the calls leave.
-    pub fn run_log(&self, pair: &mut Pair, due: &Outcome) -> Result<Ran, String> {
-        let (Some(bytes), Some(log)) = (self.log_bytes(), &self.log) else {
-            return Err("not a log".into());
-        };
+    pub fn run_log(&self, log: &Log, pair: &mut Pair, list: &Outcome) -> Result<Ran, String> {
+        let bytes = self.log_bytes().ok_or("not a log")?;
         pair.start(&self.image, &self.session);
         let run = pair.run(&bytes, log.room)?;
         let walk = logs::walk(&bytes, run, pair.output())?;
-        let answered = due.replies.iter().map(|reply| reply.answer);
+        let answered = list.replies.iter().map(|reply| reply.answer);
         if !walk
             .answers()
             .zip(answered)
@@ -157,7 +158,7 @@ impl Case {
         {
             return Err("both sides: the replies are not the answers of the same commands as calls".into());
         }
-        if log.tail.is_empty() && run.stop == 0 && pair.now() != due.end {
+        if log.tail.is_empty() && run.stop == 0 && pair.now() != list.end {
             return Err("both sides: tag or session are not what the same commands leave as calls".into());
         }
         let goes_on = run.stop == 16 && !log.then.is_empty();

@@ -9,9 +9,9 @@ use std::ops::Range;
 
 pub fn drop_commands(case: &mut Case, commands: Range<usize>) {
     case.commands.drain(commands.clone());
-    case.variation
-        .iter_mut()
-        .for_each(|variation| variation.drop(commands.clone()));
+    if let Some(variation) = &mut case.variation {
+        variation.follow(commands);
+    }
 }
 
 /// Drops commands, and of a log as much room as their replies took.

@@ -212,6 +212,7 @@ impl<'a> Pair<'a> {
 
     pub fn start(&mut self, image: &[u8], session: &Session) {
         for lent in [&mut self.left, &mut self.right] {
+            lent.side.begin();
             lent.tag.load(image);
             lent.session = *session;
         }

@@ -2,7 +2,7 @@
 
 use crate::commands::{plural, Command};
 use crate::map::{self, Map, Place};
-use crate::outcome::Calls;
+use crate::outcome::Outcome;
 use crate::table::place_of;
 use crate::units::{self, Kind, NE};
 use std::collections::BTreeMap;
@@ -21,7 +21,7 @@ pub struct Spot {
 
 fn slot_of(command: &Command) -> Option<usize> {
     match command {
-        Command::Write { address, data } if data.len() == SLOT && address % SLOT == 0 => Some(*address),
+        Command::Write { address, data } if data.len() == SLOT && address.is_multiple_of(SLOT) => Some(*address),
         _ => None,
     }
 }
@@ -72,8 +72,8 @@ fn is_locked_counter(tag: &[u8], k: usize) -> bool {
 
 /// The slot that command `i` counts in: it was granted, and the segment was a counter segment with a locked unit at
 /// the start.
-pub fn counted_in(start: &[u8], calls: &Calls, i: usize) -> Option<usize> {
-    let spot = calls.spots[i].filter(|_| calls.replies[i].answer == 0)?;
+pub fn counted_in(start: &[u8], list: &Outcome, i: usize) -> Option<usize> {
+    let spot = list.spots[i].filter(|_| list.replies[i].answer == 0)?;
     match spot.place {
         Place::Segment(k) if is_locked_counter(start, k) => spot.slot,
         _ => None,
@@ -81,18 +81,18 @@ pub fn counted_in(start: &[u8], calls: &Calls, i: usize) -> Option<usize> {
 }
 
 /// Each slot of these segments holds what it held at the start and one for each write to it that was granted.
-pub fn check_counts(start: &[u8], calls: &Calls, end: &[u8]) -> Result<(), String> {
+pub fn check_counts(start: &[u8], list: &Outcome) -> Result<(), String> {
     let Some(map) = Map::of(start) else {
         return Ok(());
     };
     let mut grants = BTreeMap::new();
-    for slot in (0..calls.replies.len()).filter_map(|i| counted_in(start, calls, i)) {
+    for slot in (0..list.replies.len()).filter_map(|i| counted_in(start, list, i)) {
         *grants.entry(slot).or_default() += 1;
     }
     let locked = (0..map.segments).filter(|&k| is_locked_counter(start, k));
     for at in locked.flat_map(|k| map.bounds(Place::Segment(k)).step_by(SLOT)) {
         let granted: usize = grants.get(&at).copied().unwrap_or(0);
-        let (held, holds) = (map::number(start, at), map::number(end, at));
+        let (held, holds) = (map::number(start, at), map::number(&list.end.0, at));
         if u128::from(held) + granted as u128 != u128::from(holds) {
             let writes = plural(granted, "granted write");
             return Err(format!(
@@ -108,6 +108,7 @@ mod tests {
     use super::*;
     use crate::map::{SEGMENT, SEGMENTS, UNIT, UNITS};
     use crate::outcome::Reply;
+    use crate::sessions::POWER_UP;
 
     /// Segment 0 counts and is locked, segment 1 counts; two public segments.
     fn tag() -> Vec<u8> {
@@ -171,20 +172,22 @@ mod tests {
     #[test]
     fn a_count_too_many_or_too_few_is_told() {
         let start = tag();
-        let mut calls = Calls::default();
-        for (address, answer) in [(SEGMENTS, 0), (SEGMENTS, 12), (SEGMENTS + SEGMENT, 0)] {
-            calls.spots.push(spot_of(&start, &write(address, 8)));
-            let bytes = Vec::new();
-            calls.replies.push(Reply { answer, bytes });
+        let writes = [(SEGMENTS, 0), (SEGMENTS, 12), (SEGMENTS + SEGMENT, 0)];
+        let reply = |answer| Reply {
+            answer,
+            bytes: Vec::new(),
+        };
+        let mut list = Outcome {
+            replies: writes.map(|(_, answer)| reply(answer)).to_vec(),
+            spots: writes.map(|(address, _)| spot_of(&start, &write(address, 8))).to_vec(),
+            end: (start.clone(), POWER_UP),
+        };
+        for (holds, is_due) in [(0, false), (2, false), (1, true)] {
+            list.end.0[SEGMENTS + 7] = holds;
+            assert_eq!(check_counts(&start, &list).is_ok(), is_due);
         }
-        let mut end = start.clone();
-        for (holds, is_due) in [(0, false), (1, true), (2, false)] {
-            end[SEGMENTS + 7] = holds;
-            assert_eq!(check_counts(&start, &calls, &end).is_ok(), is_due);
-        }
-        end[SEGMENTS + 7] = 1;
-        end[SEGMENTS + 15] = 1;
-        let wrong = check_counts(&start, &calls, &end).expect_err("a slot that was not written");
+        list.end.0[SEGMENTS + 15] = 1;
+        let wrong = check_counts(&start, &list).expect_err("a slot that was not written");
         assert_eq!(
             wrong,
             "both sides: the slot at 16392 (4008) holds 1 after 0 and 0 granted writes"

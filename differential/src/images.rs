@@ -251,4 +251,15 @@ mod tests {
             }
         }
     }
+
+    #[test]
+    fn the_largest_image_has_no_spare_place() {
+        let image = of_map(&mut Random::new(1), LARGEST);
+        assert_eq!((image.bytes.len(), limit(image.map)), (1_064_960, Some(0)));
+        assert_eq!(Map::of(&image.bytes), Some(LARGEST));
+        assert!(LARGEST.bounds(Place::Spare).is_empty());
+        for (name, place) in LAST {
+            assert_eq!(LARGEST.place(LARGEST.bounds(place).end - 1, 1), Some(place), "{name}");
+        }
+    }
 }

@@ -17,15 +17,17 @@ pub struct Reply {
 #[derive(Clone, Debug, PartialEq, Eq)]
 pub struct Outcome {
     pub replies: Vec<Reply>,
+    /// Where each command stood; only calls tell it.
+    pub spots: Vec<Option<Spot>>,
     /// The tag and the session after the list.
     pub end: (Vec<u8>, Session),
 }
 
-/// The calls of a list so far: what each was answered, and where each stood.
-#[derive(Clone, Debug, Default)]
+/// The calls of a list so far.
+#[derive(Default)]
 pub struct Calls {
-    pub replies: Vec<Reply>,
-    pub spots: Vec<Option<Spot>>,
+    replies: Vec<Reply>,
+    spots: Vec<Option<Spot>>,
 }
 
 impl Calls {
@@ -45,6 +47,7 @@ impl Calls {
     pub fn outcome(self, pair: &Pair) -> Outcome {
         Outcome {
             replies: self.replies,
+            spots: self.spots,
             end: pair.now(),
         }
     }
@@ -61,6 +64,7 @@ pub fn of_log<'c>(pair: &mut Pair, commands: impl Iterator<Item = &'c Command>) 
     };
     Ok(Outcome {
         replies: walk.answers().zip(walk.replies.clone()).map(reply).collect(),
+        spots: Vec::new(),
         end: pair.now(),
     })
 }

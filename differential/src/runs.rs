@@ -32,6 +32,8 @@ pub struct Found {
 
 pub struct Runs<'a> {
     seed: u64,
+    /// The case that is carried out.
+    number: u64,
     pub pair: Pair<'a>,
     pub tally: Tally,
     pub commands: u64,
@@ -120,6 +122,7 @@ impl<'a> Runs<'a> {
     pub fn lending(seed: u64, left: &'a dyn Side, right: &'a dyn Side, lending: Lending) -> Self {
         Runs {
             seed,
+            number: 0,
             pair: Pair::new(left, right, lending),
             tally: Tally::default(),
             commands: 0,
@@ -140,6 +143,7 @@ impl<'a> Runs<'a> {
 
     /// One case with at most this many commands: every third is said in a log too, and each is carried out changed.
     pub fn case(&mut self, number: u64, most: u64) -> Result<(), Box<Found>> {
+        self.number = number;
         let mut making = Making::new(self.seed, number);
         self.tally.image(&making.image);
         self.pair.start(&making.image.bytes, &making.session);
@@ -155,11 +159,14 @@ impl<'a> Runs<'a> {
                 return Err(Box::new(Found { number, case, failure }));
             }
         }
-        let counted = demand::check_counts(&making.image.bytes, &making.calls, self.pair.tag());
-        match counted {
-            Err(what) => Err(found(number, &making.case(), what)),
-            Ok(()) if for_log => self.logs(making, number),
-            Ok(()) => self.changed_calls(making, number),
+        let list = std::mem::take(&mut making.calls).outcome(&self.pair);
+        match demand::check_counts(&making.image.bytes, &list) {
+            Err(what) => Err(self.found(&making.case(), what)),
+            Ok(()) if for_log => self.logs(making, &list),
+            Ok(()) => {
+                let mut random = Random::new(making.random.number());
+                self.changed(&mut random, making.case(), &list)
+            }
         }
     }
 
@@ -194,90 +201,61 @@ impl<'a> Runs<'a> {
         }
     }
 
-    /// The commands once more as a log, with something behind them, in outputs of several lengths.
-    fn logs(&mut self, mut making: Making, number: u64) -> Result<(), Box<Found>> {
+    /// The commands once more as a log, with something behind them, in outputs of several lengths; and as logs that are
+    /// changed, with nothing behind them.
+    fn logs(&mut self, mut making: Making, list: &Outcome) -> Result<(), Box<Found>> {
         let last = making.next(&self.pair);
         let tail = logs::some_tail(&mut making.random, last);
         let mut random = Random::new(making.random.number());
-        let calls = std::mem::take(&mut making.calls);
-        let due = calls.clone().outcome(&self.pair);
         let mut case = making.case();
         let commands = case.log_bytes().expect("made for a log").len();
         let room = logs::much_room(&mut random, commands + tail.len());
         let then = Vec::new();
-        case.log = Some(Log { tail, room, then });
-        let enough = self.log_run(&case, &due, logs::MUCH, number)?;
+        let mut log = Log { tail, room, then };
+        let enough = self.log_run(&mut case, &log, list, logs::MUCH)?;
         for _ in 0..2 {
             let class = random.below(logs::MUCH);
             let Some(room) = logs::some_room(&mut random, class, enough) else {
                 continue;
             };
-            let log = case.log.as_mut().expect("just set");
             log.room = room;
             log.then = logs::some_rooms(&mut random);
-            self.log_run(&case, &due, class, number)?;
+            self.log_run(&mut case, &log, list, class)?;
         }
-        self.changed_logs(&mut random, case, &calls, number)
-    }
-
-    /// The commands once more as calls, with something of demand 3 changed.
-    fn changed_calls(&mut self, mut making: Making, number: u64) -> Result<(), Box<Found>> {
-        let calls = std::mem::take(&mut making.calls);
-        let due = calls.clone().outcome(&self.pair);
-        let mut random = Random::new(making.random.number());
-        self.changed(&mut random, making.case(), &calls, &due, number)
-    }
-
-    /// The same in logs, with nothing behind the commands and room enough, so that nothing stops them.
-    fn changed_logs(
-        &mut self,
-        random: &mut Random,
-        mut case: Case,
-        calls: &Calls,
-        number: u64,
-    ) -> Result<(), Box<Found>> {
         case.log = Some(Log::default());
-        let due = case
-            .as_it_is(&mut self.pair, calls)
-            .map_err(|what| found(number, &case, what))?;
-        self.changed(random, case, calls, &due, number)
+        self.changed(&mut random, case, list)
     }
 
-    fn changed(
-        &mut self,
-        random: &mut Random,
-        mut case: Case,
-        calls: &Calls,
-        due: &Outcome,
-        number: u64,
-    ) -> Result<(), Box<Found>> {
-        let copies = variations::some_copies(random, &case.image, calls);
-        let exchanges = variations::some_exchanges(random, calls);
+    /// The commands once more with something of demand 3 changed, as the case has them: as calls or in a log.
+    fn changed(&mut self, random: &mut Random, mut case: Case, list: &Outcome) -> Result<(), Box<Found>> {
+        let copies = variations::some_copies(random, &case.image, list);
+        let exchanges = variations::some_exchanges(random, list);
         for variation in copies.into_iter().chain(exchanges) {
+            let changed = case.changed(&variation, &mut self.pair, list);
             case.variation = Some(variation);
-            let changed = case.changed(&mut self.pair, calls, due);
-            let (entries, met) = changed.map_err(|what| found(number, &case, what))?;
-            self.tally.changed(case.log.is_some(), &entries, calls, &met);
+            let (entries, met) = changed.map_err(|what| self.found(&case, what))?;
+            self.tally.changed(case.log.is_some(), &entries, list, &met);
             self.changed_lists += 1;
         }
         Ok(())
     }
 
     /// Returns the least room with which the run would have come as far.
-    fn log_run(&mut self, case: &Case, due: &Outcome, class: usize, number: u64) -> Result<usize, Box<Found>> {
-        let ran = case
-            .run_log(&mut self.pair, due)
-            .map_err(|what| found(number, case, what))?;
+    fn log_run(&mut self, case: &mut Case, log: &Log, list: &Outcome, class: usize) -> Result<usize, Box<Found>> {
+        case.log = Some(log.clone());
+        let ran = case.run_log(log, &mut self.pair, list);
+        let ran = ran.map_err(|what| self.found(case, what))?;
         self.tally.run(class, &ran);
         self.log_runs += 1;
         Ok(ran.walk.enough)
     }
-}
 
-fn found(number: u64, case: &Case, what: String) -> Box<Found> {
-    Box::new(Found {
-        number,
-        case: case.clone(),
-        failure: case.at_the_end(what),
-    })
+    /// What is found in the case as a whole.
+    fn found(&self, case: &Case, what: String) -> Box<Found> {
+        Box::new(Found {
+            number: self.number,
+            case: case.clone(),
+            failure: case.at_the_end(what),
+        })
+    }
 }

@@ -6,7 +6,7 @@ use crate::demand::SORTS;
 use crate::images::{self, damage_name, Image, DAMAGES, LAST, LIMITS};
 use crate::logs::ROOMS;
 use crate::map::Place;
-use crate::outcome::{Calls, Outcome};
+use crate::outcome::Outcome;
 use crate::seats::{Seat, LISTS};
 use crate::table::{log_row, Row, ADVANCES, INSERTS, IN_LOGS, LOG_KINDS, PLACES, READS, STOPS, WRITES};
 use crate::units::WAYS;
@@ -104,12 +104,12 @@ impl Tally {
     }
 
     /// Counts a changed list by the copies and the exchanged neighbours in it.
-    pub fn changed(&mut self, in_log: bool, entries: &[Entry], calls: &Calls, met: &Outcome) {
+    pub fn changed(&mut self, in_log: bool, entries: &[Entry], list: &Outcome, met: &Outcome) {
         for (row, answer) in variations::copies(entries, met) {
             let first = if in_log { COPIES.len() / 2 } else { 0 };
             self.copies[first + row][usize::from(answer)] += 1;
         }
-        for (sort, granted) in variations::exchanges(entries, calls) {
+        for (sort, granted) in variations::exchanges(entries, list) {
             let first = if in_log { EXCHANGED.len() / 2 } else { 0 };
             self.exchanges[sort][first] += 1;
             self.exchanges[sort][first + 1] += u64::from(granted);
@@ -172,7 +172,8 @@ impl Tally {
             missing.extend(none.map(|(name, _)| format!("{heading}: {name}")));
         }
         let sorts = (0..SORTS.len()).filter(|&sort| self.exchanges[sort].contains(&0));
-        missing.extend(sorts.map(|sort| format!("exchanged as calls and in logs: {}, both granted", SORTS[sort])));
+        let named = |sort: usize| format!("exchanged as calls and in logs, granted too: {}", SORTS[sort]);
+        missing.extend(sorts.map(named));
         let (granted, all) = self.grants();
         if 3 * granted < all {
             missing.push("a grant for a third of the commands".into());
@@ -269,4 +270,27 @@ fn list(text: &mut String, heading: &str, rows: Vec<(String, u64)>) {
         *text += &format!("  {name:<42} {count:>7}\n");
     }
     text.push('\n');
+}
+
+#[cfg(test)]
+mod tests {
+    use super::*;
+
+    #[test]
+    fn what_was_never_met_is_told() {
+        let missing = Tally::default().not_met();
+        for due in [
+            "read, header: granted",
+            "log runs: end or stop, gone on after a 16: 15",
+            "copy of a granted write, call, right behind: 18",
+            "copy of a granted write, log, at the end: 12",
+            "exchanged as calls and in logs, granted too: two public segments",
+            "exchanged as calls and in logs, granted too: slots of a counter segment",
+            "images that are not sound: A = 129",
+            "sound images at the limits: A = P = 128",
+            "commands granted in the last places: unit 127 of A = P = 128",
+        ] {
+            assert!(missing.iter().any(|line| line == due), "{due}: {missing:#?}");
+        }
+    }
 }

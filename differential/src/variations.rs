@@ -38,10 +38,10 @@ pub fn plain(commands: usize) -> Vec<Entry> {
 }
 
 /// Some copies of most writes that count: right behind them, anywhere, at the end.
-pub fn some_copies(random: &mut Random, start: &[u8], calls: &Calls) -> Option<Variation> {
-    let end = calls.replies.len();
+pub fn some_copies(random: &mut Random, start: &[u8], list: &Outcome) -> Option<Variation> {
+    let end = list.replies.len();
     let mut copies = vec![Vec::new(); end];
-    for i in (0..end).filter(|&i| demand::counted_in(start, calls, i).is_some()) {
+    for i in (0..end).filter(|&i| demand::counted_in(start, list, i).is_some()) {
         let count = random.pick(&[0, 1, 1, 2, 3, 5]);
         copies[i].extend((0..count).map(|_| match random.below(4) {
             0 => 0,
@@ -54,9 +54,9 @@ pub fn some_copies(random: &mut Random, start: &[u8], calls: &Calls) -> Option<V
 }
 
 /// Half of the neighbours that may change places.
-pub fn some_exchanges(random: &mut Random, calls: &Calls) -> Option<Variation> {
-    let mut exchanged = vec![false; calls.replies.len()];
-    for i in (1..exchanged.len()).filter(|&i| sort_at(calls, i - 1).is_some()) {
+pub fn some_exchanges(random: &mut Random, list: &Outcome) -> Option<Variation> {
+    let mut exchanged = vec![false; list.replies.len()];
+    for i in (1..exchanged.len()).filter(|&i| sort_at(list, i - 1).is_some()) {
         exchanged[i - 1] = random.percent(50);
     }
     let any = exchanged.contains(&true);
@@ -64,13 +64,13 @@ pub fn some_exchanges(random: &mut Random, calls: &Calls) -> Option<Variation> {
 }
 
 /// The sort of neighbours that command `i` and the next are, if they may change places.
-pub fn sort_at(calls: &Calls, i: usize) -> Option<usize> {
-    demand::sort_of(calls.spots[i]?, (*calls.spots.get(i + 1)?)?)
+pub fn sort_at(list: &Outcome, i: usize) -> Option<usize> {
+    demand::sort_of(list.spots[i]?, (*list.spots.get(i + 1)?)?)
 }
 
-fn with_copies(copies: &[Vec<usize>], start: &[u8], calls: &Calls) -> Vec<Entry> {
+fn with_copies(copies: &[Vec<usize>], start: &[u8], list: &Outcome) -> Vec<Entry> {
     let mut behind = vec![Vec::new(); copies.len()];
-    for i in (0..copies.len()).filter(|&i| demand::counted_in(start, calls, i).is_some()) {
+    for i in (0..copies.len()).filter(|&i| demand::counted_in(start, list, i).is_some()) {
         for between in &copies[i] {
             let at = (i + between).min(copies.len() - 1);
             behind[at].push(Entry { of: i, is_copy: true });
@@ -80,11 +80,11 @@ fn with_copies(copies: &[Vec<usize>], start: &[u8], calls: &Calls) -> Vec<Entry>
     behind.into_iter().enumerate().flat_map(own_and_copies).collect()
 }
 
-fn with_exchanges(exchanged: &[bool], calls: &Calls) -> Vec<Entry> {
+fn with_exchanges(exchanged: &[bool], list: &Outcome) -> Vec<Entry> {
     let mut entries = plain(exchanged.len());
     let mut i = 0;
     while i < exchanged.len() {
-        if exchanged[i] && sort_at(calls, i).is_some() {
+        if exchanged[i] && sort_at(list, i).is_some() {
             entries.swap(i, i + 1);
             i += 1;
         }
@@ -95,18 +95,18 @@ fn with_exchanges(exchanged: &[bool], calls: &Calls) -> Vec<Entry> {
 
 impl Variation {
     /// The changed list.
-    pub fn entries(&self, start: &[u8], calls: &Calls) -> Vec<Entry> {
+    pub fn entries(&self, start: &[u8], list: &Outcome) -> Vec<Entry> {
         match self {
-            Variation::Copies(copies) => with_copies(copies, start, calls),
-            Variation::Exchanges(exchanged) => with_exchanges(exchanged, calls),
+            Variation::Copies(copies) => with_copies(copies, start, list),
+            Variation::Exchanges(exchanged) => with_exchanges(exchanged, list),
         }
     }
 
     /// Follows the list when commands are dropped from it.
-    pub fn drop(&mut self, commands: Range<usize>) {
+    pub fn follow(&mut self, dropped: Range<usize>) {
         match self {
-            Variation::Copies(copies) => drop(copies.drain(commands)),
-            Variation::Exchanges(exchanged) => drop(exchanged.drain(commands)),
+            Variation::Copies(copies) => drop(copies.drain(dropped)),
+            Variation::Exchanges(exchanged) => drop(exchanged.drain(dropped)),
         }
     }
 
@@ -137,22 +137,26 @@ impl Variation {
     /// In words; commands are counted from 1.
     pub fn words(&self) -> String {
         match self {
-            Variation::Copies(copies) => {
-                let last = copies.len();
-                let all = copies
-                    .iter()
-                    .enumerate()
-                    .flat_map(|(i, all)| all.iter().map(move |at| (i, at)));
-                let words = |(i, at)| format!("one of {} behind {}", i + 1, last.min(i + 1 + at));
-                format!("with copies: {}", Vec::from_iter(all.map(words)).join(", "))
-            }
+            Variation::Copies(copies) => format!("with copies: {}", copies_in_words(copies)),
             Variation::Exchanges(exchanged) => {
                 let all = (0..exchanged.len()).filter(|&i| exchanged[i]);
-                let words = |i| format!("{} and {}", i + 1, i + 2);
-                format!("exchanged: {}", Vec::from_iter(all.map(words)).join(", "))
+                let words = all.map(|i| format!("{} and {}", i + 1, i + 2));
+                format!("with neighbours exchanged: {}", Vec::from_iter(words).join(", "))
             }
         }
     }
+}
+
+fn copies_in_words(copies: &[Vec<usize>]) -> String {
+    let mut words = Vec::new();
+    for (i, all) in copies.iter().enumerate() {
+        let behind = |between: &usize| copies.len().min(i + 1 + between);
+        words.extend(
+            all.iter()
+                .map(|between| format!("of {} behind {}", i + 1, behind(between))),
+        );
+    }
+    words.join(", ")
 }
 
 /// How a copy stands to its write, and the answers that it can get: 7 or 8 when the rights are lost, 12 when another
@@ -182,13 +186,13 @@ pub fn copies(entries: &[Entry], met: &Outcome) -> Vec<(usize, u8)> {
 }
 
 /// The exchanged neighbours among the entries: the sort of each two, and whether both are granted.
-pub fn exchanges(entries: &[Entry], calls: &Calls) -> Vec<(usize, bool)> {
-    let pairs = entries.windows(2).filter(|two| two[0].of == two[1].of + 1);
+pub fn exchanges(entries: &[Entry], list: &Outcome) -> Vec<(usize, bool)> {
+    let is_pair = |two: &&[Entry]| !two[0].is_copy && !two[1].is_copy && two[0].of == two[1].of + 1;
     let told = |two: &[Entry]| {
-        let granted = two.iter().all(|entry| calls.replies[entry.of].answer == 0);
-        sort_at(calls, two[1].of).map(|sort| (sort, granted))
+        let granted = two.iter().all(|entry| list.replies[entry.of].answer == 0);
+        sort_at(list, two[1].of).map(|sort| (sort, granted))
     };
-    pairs.filter_map(told).collect()
+    entries.windows(2).filter(is_pair).filter_map(told).collect()
 }
 
 /// The commands of the entries, as calls or in one log as the case has them.

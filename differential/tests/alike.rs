@@ -10,7 +10,7 @@ use differential::map::{number, SEGMENT, SEGMENTS, UNITS};
 use differential::sessions::{Session, NAME, POWER_UP};
 use differential::sides::{Reference, Run, Side};
 use differential::variations::Variation;
-use std::cell::{Cell, RefCell};
+use std::cell::Cell;
 use told::found;
 
 mod told;
@@ -19,15 +19,14 @@ mod told;
 /// write, and returns the answer.
 type Fault = fn(&Wrong, &mut [u8], usize, u8) -> u8;
 
-/// The reference with a fault, and a memory of its own that outlasts a call, but not the list of commands: it is
-/// cleared where the tag is not the one that was left. Its runs are made of its calls.
+/// The reference with a fault, and a memory of its own that outlasts a call, but not the list of commands. Its runs are
+/// made of its calls.
 struct Wrong {
     fault: Fault,
     at_slots_alone: bool,
     after_run: fn(&mut Session, Run),
     in_runs_alone: bool,
     memory: Cell<usize>,
-    left: RefCell<Vec<u8>>,
 }
 
 fn wrong(fault: Fault) -> Wrong {
@@ -37,15 +36,10 @@ fn wrong(fault: Fault) -> Wrong {
         after_run: |_, _| {},
         in_runs_alone: false,
         memory: Cell::new(0),
-        left: RefCell::default(),
     }
 }
 
 impl Wrong {
-    fn leave(&self, tag: &[u8]) {
-        *self.left.borrow_mut() = tag.to_vec();
-    }
-
     fn is_at_fault(&self, tag: &[u8], address: usize, data: &[u8]) -> bool {
         let data = data.to_vec();
         let is_slot = || demand::writes_slot(tag, &Command::Write { address, data });
@@ -53,9 +47,6 @@ impl Wrong {
     }
 
     fn faulty_write(&self, tag: &mut [u8], session: &mut Session, address: usize, data: &[u8]) -> u8 {
-        if *self.left.borrow() != tag {
-            self.memory.set(0);
-        }
         let is_at_fault = self.is_at_fault(tag, address, data);
         let before = tag.to_vec();
         let mut answer = Reference.write(tag, session, address, data);
@@ -66,7 +57,6 @@ impl Wrong {
         if is_at_fault && answer != 0 {
             tag.copy_from_slice(&before);
         }
-        self.leave(tag);
         answer
     }
 
@@ -99,6 +89,10 @@ impl Side for Wrong {
         "the faulty side"
     }
 
+    fn begin(&self) {
+        self.memory.set(0);
+    }
+
     fn power_up(&self, session: &mut Session) {
         Reference.power_up(session);
     }
@@ -115,22 +109,17 @@ impl Side for Wrong {
     }
 
     fn advance(&self, tag: &mut [u8], session: &Session, segment: usize) -> u8 {
-        let answer = Reference.advance(tag, session, segment);
-        self.leave(tag);
-        answer
+        Reference.advance(tag, session, segment)
     }
 
     fn insert(&self, tag: &mut [u8], session: &Session, segment: usize, id: &Block) -> u8 {
-        let answer = Reference.insert(tag, session, segment, id);
-        self.leave(tag);
-        answer
+        Reference.insert(tag, session, segment, id)
     }
 
     fn run(&self, tag: &mut [u8], session: &mut Session, log: &[u8], output: &mut [u8]) -> Run {
         let (mut read, mut written, mut stop) = (0, 0, 0);
         while read < log.len() && stop == 0 {
             let run = self.first(tag, session, &log[read..], &mut output[written..]);
-            self.leave(tag);
             (read, written, stop) = (read + run.read, written + run.written, run.stop);
         }
         let run = Run { read, written, stop };
@@ -184,7 +173,7 @@ fn asks_for_order_of_segments(side: &Wrong, _: &mut [u8], at: usize, answer: u8)
 /// A write to a slot is granted, and every second value is not stored.
 fn loses_a_count(_: &Wrong, tag: &mut [u8], at: usize, answer: u8) -> u8 {
     let value = number(tag, at);
-    if answer == 0 && value % 2 == 0 {
+    if answer == 0 && value.is_multiple_of(2) {
         put(tag, at, value.wrapping_sub(1));
     }
     answer
