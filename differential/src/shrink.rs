@@ -53,7 +53,8 @@ impl Shrinker<'_, '_> {
 
     /// All changes once. Each makes the case smaller or plainer, so that passes come to an end.
     fn pass(&mut self) -> bool {
-        let mut changed = self.drop_commands();
+        let mut changed = self.join_parts();
+        changed |= self.drop_commands();
         changed |= self.start_later();
         changed |= self.shrink_log();
         changed |= self.shrink_variation();
@@ -70,6 +71,24 @@ impl Shrinker<'_, '_> {
         changed |= self.ask_for_less();
         changed |= self.simplify_commands();
         changed
+    }
+
+    /// One run in place of one that goes on after a 16: with room for the replies before some command, and a little.
+    fn join_parts(&mut self) -> bool {
+        if self.case.log.as_ref().is_none_or(|log| log.then.is_empty()) {
+            return false;
+        }
+        let mut rooms = vec![2];
+        for length in self.case.reply_lengths(self.pair) {
+            rooms.push(rooms[rooms.len() - 1] + length);
+        }
+        let one_run = |case: &mut Case, room| {
+            change_log(case, |log| {
+                log.room = room;
+                log.then.clear();
+            });
+        };
+        rooms.into_iter().any(|room| self.attempt(|case| one_run(case, room)))
     }
 
     /// Half of the commands, a quarter, .. one: whatever can go.
