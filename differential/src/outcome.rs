@@ -58,6 +58,12 @@ pub fn of_log<'c>(pair: &mut Pair, commands: impl Iterator<Item = &'c Command>) 
     let log = Vec::from_iter(commands.flat_map(|command| command.log_bytes().expect("made for a log")));
     let run = pair.run(&log, logs::enough_for(log.len()))?;
     let walk = logs::walk(&log, run, pair.output())?;
+    if run.stop != 0 {
+        return Err(format!(
+            "both sides: stop {} over whole commands with room enough",
+            run.stop
+        ));
+    }
     let reply = |(answer, at): (u8, Range<usize>)| Reply {
         answer,
         bytes: pair.output()[at].to_vec(),

@@ -16,7 +16,7 @@ use differential::table::place_of;
 use differential::units::{self, Kind, NE, PN, RDPIN, WRPIN};
 use std::collections::BTreeMap;
 use std::fs;
-use std::path::Path;
+use std::path::{Path, PathBuf};
 
 const SEED: u64 = 1;
 const LOG: usize = 1_048_576;
@@ -158,10 +158,19 @@ fn line(reply: &Reply) -> String {
     }
 }
 
-/// Runs the program in a folder of its own and compares the lines that it prints and the image that it leaves.
-fn replay(image: &[u8], log: &[u8], due: &Outcome) {
+/// A folder with nothing in it, whatever a run that failed has left there.
+fn empty_folder() -> PathBuf {
     let folder = Path::new(env!("CARGO_TARGET_TMPDIR")).join("megabyte");
+    if folder.exists() {
+        fs::remove_dir_all(&folder).expect("the old folder goes");
+    }
     fs::create_dir_all(&folder).expect("a folder");
+    folder
+}
+
+/// Runs the program and compares the lines that it prints and the image that it leaves.
+fn replay(image: &[u8], log: &[u8], due: &Outcome) {
+    let folder = empty_folder();
     fs::write(folder.join("image"), image).expect("the image is written");
     fs::write(folder.join("log"), log).expect("the log is written");
     let program = Path::new(env!("CARGO_MANIFEST_DIR")).join("../replay");
@@ -177,7 +186,6 @@ fn replay(image: &[u8], log: &[u8], due: &Outcome) {
     assert_eq!(printed.lines().count(), due.replies.len());
     let left = fs::read(folder.join("out")).expect("the program leaves an image");
     assert!(left == due.end.0, "the image that the program leaves is another");
-    fs::remove_dir_all(&folder).expect("the folder goes");
 }
 
 #[test]
