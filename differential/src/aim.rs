@@ -2,6 +2,7 @@
 
 use crate::cipher::{self, Block};
 use crate::commands::Command;
+use crate::demand;
 use crate::edits;
 use crate::map::{self, Map, Place, Register, COUNTER, FLAG, PINS, SEGMENT, SEGMENTS};
 use crate::random::Random;
@@ -82,6 +83,7 @@ impl Aim {
             (4..20, _) => spans::some_span(random, self.map),
             (20..26, _) => slips::some_slip(random, view),
             (26..36, _) => open_place(random, self.map),
+            (36..66, Some(last)) if demand::writes_slot(view.tag, last) => values::next_slot(random, view, last),
             _ => slips::after_odd_pa(random, view).unwrap_or_else(|| self.step(random, view)),
         }
     }
@@ -109,9 +111,9 @@ fn open_place(random: &mut Random, map: Map) -> Command {
     let place = match random.below(6) {
         0 => Place::Header,
         1 => Place::Readers,
-        2 => Place::Unit(random.below(map.segments)),
-        _ if map.publics > 0 => Place::Public(random.below(map.publics)),
-        _ => Place::Segment(random.below(map.segments)),
+        2 => Place::Unit(map::some_number(random, map.segments)),
+        _ if map.publics > 0 => Place::Public(map::some_number(random, map.publics)),
+        _ => Place::Segment(map::some_number(random, map.segments)),
     };
     let (address, count) = spans::part(random, map.bounds(place));
     match place {
@@ -122,7 +124,7 @@ fn open_place(random: &mut Random, map: Map) -> Command {
 
 /// Mostly a segment of this kind, if there is one.
 fn mostly_of(random: &mut Random, view: View, map: Map, kind: Kind) -> usize {
-    let any = random.below(map.segments);
+    let any = map::some_number(random, map.segments);
     let is_of_kind = |k: &usize| units::kind(map::unit(view.tag, *k)) == kind;
     let mut from_any = (any..map.segments).chain(0..any);
     if random.percent(80) {
@@ -133,7 +135,7 @@ fn mostly_of(random: &mut Random, view: View, map: Map, kind: Kind) -> usize {
 }
 
 fn some_goal(random: &mut Random, view: View, map: Map) -> Goal {
-    let segment = random.below(map.segments);
+    let segment = map::some_number(random, map.segments);
     match random.below(24) {
         0..6 => Goal::Read(segment),
         6..9 => Goal::Write(segment),

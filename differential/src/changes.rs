@@ -7,9 +7,16 @@ use crate::map::{Map, Place, SEGMENT, SEGMENTS, UNIT, UNITS};
 use crate::table::place_of;
 use std::ops::Range;
 
+pub fn drop_commands(case: &mut Case, commands: Range<usize>) {
+    case.commands.drain(commands.clone());
+    if let Some(variation) = &mut case.variation {
+        variation.follow(commands);
+    }
+}
+
 /// Drops commands, and of a log as much room as their replies took.
 pub fn drop_with_room(case: &mut Case, commands: Range<usize>, replies: usize) {
-    case.commands.drain(commands);
+    drop_commands(case, commands);
     change_log(case, |log| log.room = log.room.saturating_sub(replies));
 }
 

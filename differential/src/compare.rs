@@ -179,7 +179,7 @@ fn run_in_words(run: Run) -> String {
 }
 
 /// Where two byte lists of one length first differ, in words.
-fn first_difference(of: &str, left: &[u8], right: &[u8], names: [&str; 2]) -> Result<(), String> {
+pub fn first_difference(of: &str, left: &[u8], right: &[u8], names: [&str; 2]) -> Result<(), String> {
     if left == right {
         return Ok(());
     }
@@ -212,6 +212,7 @@ impl<'a> Pair<'a> {
 
     pub fn start(&mut self, image: &[u8], session: &Session) {
         for lent in [&mut self.left, &mut self.right] {
+            lent.side.begin();
             lent.tag.load(image);
             lent.session = *session;
         }

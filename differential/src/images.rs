@@ -1,9 +1,10 @@
 //! Images to start from: sound ones, and ones damaged in each way that soundness names.
 
+use crate::hosts;
 use crate::lists;
-use crate::map::{Map, FLAG, MOST, PINS, SEGMENT, SEGMENTS, UNIT, UNITS};
+use crate::map::{self, Map, Place, FLAG, MOST, PINS, SEGMENT, SEGMENTS, UNIT, UNITS};
 use crate::random::Random;
-use crate::units::{self, Kind};
+use crate::units::{self, Kind, Unit, NE, PN, RDPIN, WRPIN};
 
 /// An image with what the generator knows of it.
 #[derive(Clone, Debug)]
@@ -47,6 +48,32 @@ pub fn damage_name(way: usize) -> String {
     }
 }
 
+/// The largest map. Its images are slow, so that they are not drawn by `some_image`.
+pub const LARGEST: Map = Map {
+    segments: MOST,
+    publics: MOST,
+};
+
+/// The maps at the limits: the largest, and with the most segments of one sort.
+pub const LIMITS: [&str; 3] = ["A = P = 128", "A = 128, P below 3", "A below 4, P = 128"];
+
+/// In which of `LIMITS` a map is.
+pub fn limit(map: Map) -> Option<usize> {
+    match (map.segments, map.publics) {
+        (MOST, MOST) => Some(0),
+        (MOST, 0..3) => Some(1),
+        (1..4, MOST) => Some(2),
+        _ => None,
+    }
+}
+
+/// The last places of the largest map; there is no spare one behind the units.
+pub const LAST: [(&str, Place); 3] = [
+    ("unit 127 of A = P = 128", Place::Unit(MOST - 1)),
+    ("segment 127 of A = P = 128", Place::Segment(MOST - 1)),
+    ("public segment 127 of A = P = 128", Place::Public(MOST - 1)),
+];
+
 /// Mostly few segments; now and then the most, so that there is no spare place, or enough for a full list of hosts.
 fn some_map(random: &mut Random) -> Map {
     let (segments, publics) = match random.below(200) {
@@ -64,6 +91,16 @@ fn some_map(random: &mut Random) -> Map {
 
 pub fn some_image(random: &mut Random, may_be_damaged: bool) -> Image {
     let map = some_map(random);
+    let mut image = of_map(random, map);
+    if may_be_damaged {
+        let way = random.below(DAMAGES);
+        damage(random, &mut image, way);
+    }
+    image
+}
+
+/// A sound image.
+pub fn of_map(random: &mut Random, map: Map) -> Image {
     let mut bytes = vec![0; map.length()];
     if random.percent(70) {
         random.fill(&mut bytes);
@@ -78,9 +115,8 @@ pub fn some_image(random: &mut Random, may_be_damaged: bool) -> Image {
         ill_formed,
     };
     lists::fill(random, &mut image);
-    if may_be_damaged {
-        let way = random.below(DAMAGES);
-        damage(random, &mut image, way);
+    if random.percent(50) {
+        lock_a_counter(random, &mut image);
     }
     image
 }
@@ -127,15 +163,37 @@ fn fill_segment(random: &mut Random, bytes: &mut [u8], k: usize) -> Option<usize
         Some(way) => units::ill_formed(random, way),
         None => units::well_formed(random),
     };
-    bytes[UNITS + UNIT * k..][..UNIT].copy_from_slice(&unit);
-    if units::kind(&unit) == Kind::Model2 {
+    put_unit(random, bytes, k, &unit);
+    way
+}
+
+fn put_unit(random: &mut Random, bytes: &mut [u8], k: usize, unit: &Unit) {
+    bytes[UNITS + UNIT * k..][..UNIT].copy_from_slice(unit);
+    if units::kind(unit) == Kind::Model2 {
         let start = SEGMENTS + SEGMENT * k;
         for slot in (0..16).chain([510, 511]) {
             let value = random.counter();
             put_number(bytes, start + 8 * slot, value);
         }
     }
-    way
+}
+
+/// Lets a segment count, with a locked unit that often asks for no rights: demand 3 speaks of these. It is one that no
+/// row names, since the list would be flawed by it.
+fn lock_a_counter(random: &mut Random, image: &mut Image) {
+    let k = map::some_number(random, image.map.segments);
+    if hosts::is_listed(&image.bytes, k) {
+        return;
+    }
+    let mut unit = units::of_kind(random, Kind::Model2);
+    unit[0] |= NE;
+    match random.below(4) {
+        0 | 1 => unit[0] &= !(RDPIN | WRPIN | PN),
+        2 => unit[0] = unit[0] & !WRPIN | PN,
+        _ => unit[0] |= WRPIN,
+    }
+    put_unit(random, &mut image.bytes, k, &unit);
+    image.ill_formed[k] = None;
 }
 
 /// Damages a sound image in this way, below `DAMAGES`, and in no other.
@@ -191,6 +249,17 @@ mod tests {
                 damage(&mut random, &mut image, way);
                 assert_eq!(Map::of(&image.bytes), None, "{}, round {round}", damage_name(way));
             }
+        }
+    }
+
+    #[test]
+    fn the_largest_image_has_no_spare_place() {
+        let image = of_map(&mut Random::new(1), LARGEST);
+        assert_eq!((image.bytes.len(), limit(image.map)), (1_064_960, Some(0)));
+        assert_eq!(Map::of(&image.bytes), Some(LARGEST));
+        assert!(LARGEST.bounds(Place::Spare).is_empty());
+        for (name, place) in LAST {
+            assert_eq!(LARGEST.place(LARGEST.bounds(place).end - 1, 1), Some(place), "{name}");
         }
     }
 }

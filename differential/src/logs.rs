@@ -3,6 +3,7 @@
 use crate::commands::{log_kind, Command, LogKind};
 use crate::random::Random;
 use crate::sides::Run;
+use std::ops::Range;
 
 #[derive(Clone, Copy, Debug, PartialEq, Eq)]
 pub enum Unreadable {
@@ -17,10 +18,11 @@ pub struct Step {
     pub answer: u8,
 }
 
-/// The steps of a run, and the least room with which it would have come as far.
+/// The steps of a run, where the replies of commands stand, and the least room with which it would have come as far.
 #[derive(Clone, Debug, Default, PartialEq, Eq)]
 pub struct Walk {
     pub steps: Vec<Step>,
+    pub replies: Vec<Range<usize>>,
     pub enough: usize,
     read: usize,
     written: usize,
@@ -57,6 +59,7 @@ impl Walk {
             .ok_or_else(|| format!("both sides: no reply to the command at log byte {}", self.read))?;
         self.steps.push(Step { kind: Ok(kind), answer });
         self.read += kind.length();
+        self.replies.push(self.written..self.written + length);
         self.written += length;
         Ok(())
     }
@@ -142,9 +145,27 @@ pub const ROOMS: [&str; 7] = [
 ];
 pub const MUCH: usize = 6;
 
-/// Room for any run over a log of this length: 32 bytes are the most for five.
+/// Room for any one reply.
+pub const ANY_REPLY: usize = 33;
+
+/// Room for any run over a log of this length: 33 bytes are the most for five.
+pub fn enough_for(log: usize) -> usize {
+    7 * log + 2
+}
+
 pub fn much_room(random: &mut Random, log: usize) -> usize {
-    7 * log + 2 + random.below(100)
+    enough_for(log) + random.below(100)
+}
+
+/// Rooms for the runs that go on after a 16, too small ones among them.
+pub fn some_rooms(random: &mut Random) -> Vec<usize> {
+    let count = 1 + random.below(4);
+    (0..count)
+        .map(|_| {
+            let any = random.below(80);
+            random.pick(&[0, 1, 2, 3, 9, 17, ANY_REPLY, any, any, any])
+        })
+        .collect()
 }
 
 /// The room for a class of `ROOMS` other than the last, where `enough` is just enough; none where there is no such.

@@ -9,12 +9,13 @@ use std::time::Duration;
 
 const USAGE: &str = "usage: tag-runs [--exact] COMMANDS [SEED [CASE]]
 Carries out COMMANDS commands, and logs made of some of them, on the proved tag and on the reference, and compares
-every byte. The same SEED (1 if none is given) makes the same commands. With CASE, that case alone. With --exact each
-buffer is an allocation of just its length, for a memory checker to watch; without, bytes around it are watched.
-The exit status is 0 if all is well, 1 if there is a difference or an answer was met too seldom or wrongly, 2 if the
-arguments are wrong.";
+every byte. Each list of commands is also changed as demand 3 allows, by copies of granted writes and by exchanged
+neighbours, and must come to the same. The same SEED (1 if none is given) makes the same commands. With CASE, that case
+alone. With --exact each buffer is an allocation of just its length, for a memory checker to watch; without, bytes
+around it are watched. The exit status is 0 if all is well, 1 if there is a difference or something was met too seldom
+or wrongly, 2 if the arguments are wrong.";
 
-/// From this many commands on, each answer of the set must have been met.
+/// From this many commands on, each answer of the set, and all else that is counted, must have been met.
 const WHOLE: u64 = 200_000;
 const SHRINKING: Duration = Duration::from_secs(5);
 
@@ -92,8 +93,8 @@ fn run(given: &Arguments) -> bool {
         (Ok(()), true) => "no difference",
     };
     println!(
-        "{} commands, {} runs over logs, seed {}: {end}",
-        runs.commands, runs.log_runs, given.seed
+        "{} commands, {} runs over logs, {} changed lists, seed {}: {end}",
+        runs.commands, runs.log_runs, runs.changed_lists, given.seed
     );
     result.is_ok() && met
 }

@@ -1,5 +1,6 @@
 //! The map of a tag as the generator knows it: enough to aim commands and to name the place each one is at.
 
+use crate::random::Random;
 use std::ops::Range;
 
 pub const SEGMENT: usize = 4096;
@@ -121,6 +122,15 @@ impl Map {
     pub fn place(&self, address: usize, count: usize) -> Option<Place> {
         let place = self.at(address)?;
         (count <= self.bounds(place).end - address).then_some(place)
+    }
+}
+
+/// The number of one of so many segments; of the most that there can be, mostly one of the last two.
+pub fn some_number(random: &mut Random, count: usize) -> usize {
+    let any = random.below(count);
+    match count {
+        MOST => random.pick(&[MOST - 1, MOST - 1, MOST - 2, any]),
+        _ => any,
     }
 }
 

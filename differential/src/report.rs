@@ -1,6 +1,6 @@
 //! Tells a failing case so that it can be tried by hand: image, session, and commands in words and as a log.
 
-use crate::cases::{Case, Failure};
+use crate::cases::{Case, Failure, Log};
 use crate::commands::{hex, plural};
 use crate::runs::Found;
 use crate::sessions::{PARTS, POWER_UP};
@@ -55,10 +55,22 @@ fn commands(case: &Case) -> String {
     if let Some(bytes) = case.log_bytes() {
         text += &format!("as a log: {}\n", hex(&bytes));
     }
-    if let Some(log) = &case.log {
-        text += &format!("run over that log into an output of {}\n", plural(log.room, "byte"));
+    match (&case.log, &case.variation) {
+        (Some(_), Some(variation)) => text += &format!("run over that log, and once more {}\n", variation.words()),
+        (None, Some(variation)) => text += &format!("and once more {}\n", variation.words()),
+        (Some(log), None) => text += &run(log),
+        (None, None) => {}
     }
     text
+}
+
+fn run(log: &Log) -> String {
+    let room = plural(log.room, "byte");
+    let then = match log.then.as_slice() {
+        [] => String::new(),
+        rooms => format!(", and after a 16 on with others, of {rooms:?} in turn"),
+    };
+    format!("run over that log into an output of {room}{then}\n")
 }
 
 /// How many commands a case has, its tail counted as one.
@@ -75,7 +87,9 @@ pub fn difference(seed: u64, found: &Found, small: &Case, failure: &Failure) -> 
     let mut text = format!("difference: seed {seed}, case {}", found.number);
     match found.case.commands.get(found.failure.command) {
         Some(command) => text += &format!(", command {}: {}", found.failure.command + 1, command.words()),
-        None => text += ", run over a log",
+        None if found.case.variation.is_some() => text += ", the list changed",
+        None if found.case.log.is_some() => text += ", run over a log",
+        None => text += ", after the list",
     }
     text += &format!("\n  {}\n", found.failure.what);
     text += &format!(

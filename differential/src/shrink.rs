@@ -1,11 +1,12 @@
 //! Makes a failing case small, by changes after each of which it still fails.
 
 use crate::cases::{Case, Failure, Log};
-use crate::changes::{self, change_log, data, fit_room, segment_of, shorten};
+use crate::changes::{self, change_log, data, drop_commands, fit_room, segment_of, shorten};
 use crate::compare::Pair;
 use crate::hosts;
 use crate::map::{Map, SEGMENTS, UNITS};
 use crate::sessions::{Session, PARTS, POWER_UP};
+use crate::variations::Variation;
 use std::ops::Range;
 use std::time::{Duration, Instant};
 
@@ -52,9 +53,11 @@ impl Shrinker<'_, '_> {
 
     /// All changes once. Each makes the case smaller or plainer, so that passes come to an end.
     fn pass(&mut self) -> bool {
-        let mut changed = self.drop_commands();
+        let mut changed = self.join_parts();
+        changed |= self.drop_commands();
         changed |= self.start_later();
         changed |= self.shrink_log();
+        changed |= self.shrink_variation();
         changed |= self.attempt(|case| case.session.fill(0));
         for (_, at, length) in PARTS {
             changed |= self.attempt(|case| case.session[at..at + length].fill(0));
@@ -70,12 +73,31 @@ impl Shrinker<'_, '_> {
         changed
     }
 
+    /// One run in place of one that goes on after a 16: with room for the replies before some command, and a little.
+    fn join_parts(&mut self) -> bool {
+        if self.case.log.as_ref().is_none_or(|log| log.then.is_empty()) {
+            return false;
+        }
+        let mut rooms = vec![2];
+        for length in self.case.reply_lengths(self.pair) {
+            rooms.push(rooms[rooms.len() - 1] + length);
+        }
+        let one_run = |case: &mut Case, room| {
+            change_log(case, |log| {
+                log.room = room;
+                log.then.clear();
+            });
+        };
+        rooms.into_iter().any(|room| self.attempt(|case| one_run(case, room)))
+    }
+
     /// Half of the commands, a quarter, .. one: whatever can go.
     fn drop_commands(&mut self) -> bool {
         let mut changed = false;
         if self.case.log.is_none() {
-            let end = self.failure.command + 1;
-            changed |= self.attempt(|case| case.commands.truncate(end));
+            let end = self.case.commands.len();
+            let start = end.min(self.failure.command + 1);
+            changed |= self.attempt(|case| drop_commands(case, start..end));
         }
         let mut size = self.case.commands.len();
         while size > 0 {
@@ -94,7 +116,7 @@ impl Shrinker<'_, '_> {
     }
 
     fn drop_range(&mut self, range: Range<usize>) -> bool {
-        if self.attempt(|case| drop(case.commands.drain(range.clone()))) {
+        if self.attempt(|case| drop_commands(case, range.clone())) {
             return true;
         }
         let replies = self.case.reply_lengths(self.pair)[range.clone()].iter().sum();
@@ -118,11 +140,14 @@ impl Shrinker<'_, '_> {
 
     /// Without the tail, with its first half; with the least room of a few.
     fn shrink_log(&mut self) -> bool {
-        let Some(Log { tail, room }) = &self.case.log else {
+        let Some(Log { tail, room, then }) = &self.case.log else {
             return false;
         };
-        let (tail, room) = (tail.len(), *room);
+        let (tail, room, then) = (tail.len(), *room, then.len());
         let mut changed = false;
+        for most in [0, then.min(1), then / 2] {
+            changed |= self.attempt(|case| change_log(case, |log| log.then.truncate(most)));
+        }
         for most in [0, tail / 2, tail.saturating_sub(1)] {
             changed |= self.attempt(|case| change_log(case, |log| log.tail.truncate(most)));
         }
@@ -130,6 +155,18 @@ impl Shrinker<'_, '_> {
             changed |= self.attempt(|case| change_log(case, |log| log.room = log.room.min(most)));
         }
         changed
+    }
+
+    /// Without the copies and exchanges that can go.
+    fn shrink_variation(&mut self) -> bool {
+        let mut smaller = self
+            .case
+            .variation
+            .iter()
+            .flat_map(Variation::smaller)
+            .collect::<Vec<_>>()
+            .into_iter();
+        smaller.any(|variation| self.attempt(|case| case.variation = Some(variation)))
     }
 
     /// Uses the first segments in place of later ones.
@@ -182,7 +219,7 @@ impl Shrinker<'_, '_> {
             };
             changed |= self.attempt(|case| {
                 clear(case);
-                case.commands.drain(..case.commands.len().saturating_sub(1));
+                drop_commands(case, 0..case.commands.len().saturating_sub(1));
             });
             changed |= self.attempt(clear);
             for bit in 0..8 {

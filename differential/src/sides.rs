@@ -13,6 +13,8 @@ pub struct Run {
 
 pub trait Side {
     fn name(&self) -> &'static str;
+    /// Another list of commands begins. A side that keeps nothing between calls need not know.
+    fn begin(&self) {}
     fn power_up(&self, session: &mut Session);
     fn read(&self, tag: &[u8], session: &Session, address: usize, count: usize, output: &mut [u8]) -> u8;
     fn write(&self, tag: &mut [u8], session: &mut Session, address: usize, data: &[u8]) -> u8;

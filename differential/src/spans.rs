@@ -1,7 +1,7 @@
 //! Commands chosen by place and by length alone: in every place, at every border, and far outside.
 
 use crate::commands::Command;
-use crate::map::{Map, Place, ALL_REGISTERS, SEGMENT, SEGMENTS};
+use crate::map::{self, Map, Place, ALL_REGISTERS, SEGMENT, SEGMENTS};
 use crate::random::Random;
 use std::ops::Range;
 
@@ -57,10 +57,10 @@ pub fn some_place(random: &mut Random, map: Map) -> Place {
         i @ 2..9 => Place::Register(ALL_REGISTERS[i - 2]),
         9 => Place::Pins,
         10 => Place::Readers,
-        11 | 12 => Place::Unit(random.below(map.segments)),
+        11 | 12 => Place::Unit(map::some_number(random, map.segments)),
         13 if map.segments < 128 => Place::Spare,
-        14 if map.publics > 0 => Place::Public(random.below(map.publics)),
-        _ => Place::Segment(random.below(map.segments)),
+        14 if map.publics > 0 => Place::Public(map::some_number(random, map.publics)),
+        _ => Place::Segment(map::some_number(random, map.segments)),
     }
 }
 
@@ -134,7 +134,7 @@ fn some_segment(random: &mut Random, map: Map) -> usize {
         // Also numbers that a multiplication by a segment's size would bring back into the tag.
         3 => random.pick(&far) - random.below(2),
         4 => (1usize << 52) + random.below(map.segments),
-        _ => random.below(map.segments),
+        _ => map::some_number(random, map.segments),
     }
 }
 

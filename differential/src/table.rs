@@ -155,7 +155,7 @@ pub const IN_LOGS: [Row; LOG_KINDS] = [
 ];
 
 /// Every reply needs two bytes or more, so that with less a run ends only over an empty log.
-pub const STOPS: [Row; ROOMS.len()] = [
+pub const STOPS: [Row; ROOMS.len() + 1] = [
     (ROOMS[0], &[0, 16]),
     (ROOMS[1], &[0, 16]),
     (ROOMS[2], &[0, 15, 16]),
@@ -163,6 +163,7 @@ pub const STOPS: [Row; ROOMS.len()] = [
     (ROOMS[4], &[16]),
     (ROOMS[5], &[0, 15]),
     (ROOMS[6], &[0, 15]),
+    ("gone on after a 16", &[0, 15]),
 ];
 
 /// The row of a read or a write, by the generator's own map.

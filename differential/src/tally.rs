@@ -1,11 +1,16 @@
 //! How often each answer was met at each place and seat, and what of the sets in `table` and `seats` was not.
 
+use crate::cases::Ran;
 use crate::commands::Command;
-use crate::images::{damage_name, DAMAGES};
-use crate::logs::{Step, ROOMS};
+use crate::demand::SORTS;
+use crate::images::{self, damage_name, Image, DAMAGES, LAST, LIMITS};
+use crate::logs::ROOMS;
+use crate::map::Place;
+use crate::outcome::Outcome;
 use crate::seats::{Seat, LISTS};
 use crate::table::{log_row, Row, ADVANCES, INSERTS, IN_LOGS, LOG_KINDS, PLACES, READS, STOPS, WRITES};
 use crate::units::WAYS;
+use crate::variations::{self, Entry, COPIES};
 
 /// 0 is granted, then the refusals 1 to 14, the stops 15 and 16, and the refusals 18 and 19.
 const ANSWERS: usize = 20;
@@ -15,6 +20,9 @@ type Counts = [u64; ANSWERS];
 /// The heading of the part whose first column is the end of the log.
 const ENDS: &str = "log runs: end or stop";
 
+/// The columns of exchanged neighbours.
+const EXCHANGED: [&str; 4] = ["calls", "granted", "in logs", "granted"];
+
 /// Power-ups stand apart: they have no place and are always granted.
 pub struct Tally {
     reads: [Counts; PLACES],
@@ -23,14 +31,22 @@ pub struct Tally {
     inserts: [Counts; PLACES],
     seats: [Vec<Counts>; LISTS.len()],
     logs: [Counts; LOG_KINDS],
-    rooms: [Counts; ROOMS.len()],
+    rooms: [Counts; STOPS.len()],
+    copies: [Counts; COPIES.len()],
+    /// By sort: in calls and in logs, each all and those with both granted.
+    exchanges: [[u64; EXCHANGED.len()]; SORTS.len()],
     damages: [u64; DAMAGES],
+    limits: [u64; LIMITS.len()],
+    last: [u64; LAST.len()],
     ill_formed: [u64; WAYS.len()],
     power_ups: u64,
 }
 
 /// A part of the table: its heading, its rows, and their counts.
 type Part<'a> = (&'static str, &'a [Row], &'a [Counts]);
+
+/// A heading, and names with their counts, of which none may be 0 in the end.
+type List = (&'static str, Vec<(String, u64)>);
 
 impl Default for Tally {
     fn default() -> Self {
@@ -41,8 +57,12 @@ impl Default for Tally {
             inserts: [[0; ANSWERS]; PLACES],
             seats: LISTS.map(|(_, rows, _)| vec![[0; ANSWERS]; rows.len()]),
             logs: [[0; ANSWERS]; LOG_KINDS],
-            rooms: [[0; ANSWERS]; ROOMS.len()],
+            rooms: [[0; ANSWERS]; STOPS.len()],
+            copies: [[0; ANSWERS]; COPIES.len()],
+            exchanges: [[0; EXCHANGED.len()]; SORTS.len()],
             damages: [0; DAMAGES],
+            limits: [0; LIMITS.len()],
+            last: [0; LAST.len()],
             ill_formed: [0; WAYS.len()],
             power_ups: 0,
         }
@@ -73,17 +93,41 @@ impl Tally {
         }
     }
 
-    pub fn run(&mut self, room: usize, stop: u8, steps: &[Step]) {
-        self.rooms[room][usize::from(stop)] += 1;
-        for step in steps {
+    pub fn run(&mut self, room: usize, ran: &Ran) {
+        self.rooms[room][usize::from(ran.stop)] += 1;
+        for step in &ran.walk.steps {
             self.logs[log_row(step.kind)][usize::from(step.answer)] += 1;
+        }
+        if let Some(stop) = ran.in_the_end {
+            self.rooms[ROOMS.len()][usize::from(stop)] += 1;
         }
     }
 
-    pub fn image(&mut self, damage: Option<usize>) {
-        if let Some(way) = damage {
-            self.damages[way] += 1;
+    /// Counts a changed list by the copies and the exchanged neighbours in it.
+    pub fn changed(&mut self, in_log: bool, entries: &[Entry], list: &Outcome, met: &Outcome) {
+        for (row, answer) in variations::copies(entries, met) {
+            let first = if in_log { COPIES.len() / 2 } else { 0 };
+            self.copies[first + row][usize::from(answer)] += 1;
         }
+        for (sort, granted) in variations::exchanges(entries, list) {
+            let first = if in_log { EXCHANGED.len() / 2 } else { 0 };
+            self.exchanges[sort][first] += 1;
+            self.exchanges[sort][first + 1] += u64::from(granted);
+        }
+    }
+
+    pub fn image(&mut self, image: &Image) {
+        match (image.damage, images::limit(image.map)) {
+            (Some(way), _) => self.damages[way] += 1,
+            (None, Some(limit)) => self.limits[limit] += 1,
+            _ => {}
+        }
+    }
+
+    /// Counts a granted command on an image with the largest map.
+    pub fn in_largest(&mut self, place: Option<Place>) {
+        let last = LAST.iter().position(|(_, last)| place == Some(*last));
+        last.inspect(|&last| self.last[last] += 1);
     }
 
     pub fn ill_formed(&mut self, way: usize) {
@@ -102,6 +146,7 @@ impl Tally {
         }
         parts.push(("log runs: commands", &IN_LOGS, &self.logs));
         parts.push((ENDS, &STOPS, &self.rooms));
+        parts.push(("copy of a granted write", &COPIES, &self.copies));
         parts
     }
 
@@ -122,10 +167,13 @@ impl Tally {
     /// What is in the set and was not met.
     pub fn not_met(&self) -> Vec<String> {
         let mut missing = self.cells(|count, reachable| count == 0 && reachable);
-        let damages = (0..DAMAGES).filter(|&way| self.damages[way] == 0);
-        missing.extend(damages.map(|way| format!("images: {}", damage_name(way))));
-        let ways = (0..WAYS.len()).filter(|&way| self.ill_formed[way] == 0);
-        missing.extend(ways.map(|way| format!("commands at ill-formed units: {}", WAYS[way])));
+        for (heading, rows) in self.lists() {
+            let none = rows.iter().filter(|(_, count)| *count == 0);
+            missing.extend(none.map(|(name, _)| format!("{heading}: {name}")));
+        }
+        let sorts = (0..SORTS.len()).filter(|&sort| self.exchanges[sort].contains(&0));
+        let named = |sort: usize| format!("exchanged as calls and in logs, granted too: {}", SORTS[sort]);
+        missing.extend(sorts.map(named));
         let (granted, all) = self.grants();
         if 3 * granted < all {
             missing.push("a grant for a third of the commands".into());
@@ -155,21 +203,40 @@ impl Tally {
             }
             text.push('\n');
         }
-        self.lists(&mut text);
+        line(
+            &mut text,
+            "exchanged neighbours",
+            EXCHANGED.map(String::from).into_iter(),
+        );
+        for (name, counts) in SORTS.iter().zip(&self.exchanges) {
+            line(&mut text, name, counts.iter().map(u64::to_string));
+        }
+        text.push('\n');
+        for (heading, rows) in self.lists() {
+            list(&mut text, heading, rows);
+        }
+        let (granted, all) = self.grants();
+        text += &format!("power-ups {}; {granted} of {all} commands granted\n", self.power_ups);
         text
     }
 
-    fn lists(&self, text: &mut String) {
+    /// What is counted without answers.
+    fn lists(&self) -> [List; 4] {
         let damaged = (0..DAMAGES).map(|way| (damage_name(way), self.damages[way]));
-        let ill_formed = WAYS
-            .iter()
-            .zip(self.ill_formed)
-            .map(|(name, count)| (name.to_string(), count));
-        list(text, "images that are not sound", damaged);
-        list(text, "commands at units that are not well formed", ill_formed);
-        let (granted, all) = self.grants();
-        *text += &format!("power-ups {}; {granted} of {all} commands granted\n", self.power_ups);
+        let limits = LIMITS.iter().zip(self.limits).map(named);
+        let last = LAST.iter().map(|(name, _)| name).zip(self.last).map(named);
+        let ill_formed = WAYS.iter().zip(self.ill_formed).map(named);
+        [
+            ("images that are not sound", damaged.collect()),
+            ("sound images at the limits", limits.collect()),
+            ("commands granted in the last places", last.collect()),
+            ("commands at units that are not well formed", ill_formed.collect()),
+        ]
     }
+}
+
+fn named((name, count): (&&str, u64)) -> (String, u64) {
+    (name.to_string(), count)
 }
 
 fn column(heading: &str, answer: usize) -> String {
@@ -197,10 +264,33 @@ fn line(text: &mut String, first: &str, cells: impl Iterator<Item = String>) {
     text.push('\n');
 }
 
-fn list(text: &mut String, heading: &str, rows: impl Iterator<Item = (String, u64)>) {
+fn list(text: &mut String, heading: &str, rows: Vec<(String, u64)>) {
     *text += &format!("{heading}\n");
     for (name, count) in rows {
         *text += &format!("  {name:<42} {count:>7}\n");
     }
     text.push('\n');
+}
+
+#[cfg(test)]
+mod tests {
+    use super::*;
+
+    #[test]
+    fn what_was_never_met_is_told() {
+        let missing = Tally::default().not_met();
+        for due in [
+            "read, header: granted",
+            "log runs: end or stop, gone on after a 16: 15",
+            "copy of a granted write, call, right behind: 18",
+            "copy of a granted write, log, at the end: 12",
+            "exchanged as calls and in logs, granted too: two public segments",
+            "exchanged as calls and in logs, granted too: slots of a counter segment",
+            "images that are not sound: A = 129",
+            "sound images at the limits: A = P = 128",
+            "commands granted in the last places: unit 127 of A = P = 128",
+        ] {
+            assert!(missing.iter().any(|line| line == due), "{due}: {missing:#?}");
+        }
+    }
 }

@@ -62,7 +62,7 @@ fn is_stored(tag: &[u8], address: usize, data: &[u8]) -> bool {
 
 fn slot_row(tag: &[u8], address: usize, data: &[u8]) -> Option<usize> {
     match data.len() {
-        8 if address % 8 == 0 => Some(standing(map::number(tag, address), map::number(data, 0)) as usize),
+        8 if address.is_multiple_of(8) => Some(standing(map::number(tag, address), map::number(data, 0)) as usize),
         _ if !is_stored(tag, address, data) => None,
         8 => Some(6),
         0..8 => Some(7),

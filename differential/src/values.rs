@@ -59,6 +59,14 @@ pub fn slot_write(random: &mut Random, view: View, start: usize) -> Command {
     }
 }
 
+/// A slot of the segment that was just written to.
+pub fn next_slot(random: &mut Random, view: View, last: &Command) -> Command {
+    match last {
+        Command::Write { address, .. } => slot_write(random, view, address - address % SEGMENT),
+        _ => last.clone(),
+    }
+}
+
 /// A header write: of the roll-back counter, and of other places and lengths.
 pub fn counter_write(random: &mut Random, view: View) -> Command {
     match random.below(6) {

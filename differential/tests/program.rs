@@ -50,7 +50,7 @@ fn a_short_run() {
         assert_eq!(status, Some(0), "{out}");
         let last = out.lines().last().expect("a line");
         assert!(
-            last.starts_with("3000 commands, ") && last.ends_with(" runs over logs, seed 5: no difference"),
+            last.starts_with("3000 commands, ") && last.ends_with(" changed lists, seed 5: no difference"),
             "{last}"
         );
     }

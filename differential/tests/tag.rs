@@ -1,13 +1,13 @@
 //! The comparison itself: it repeats, it agrees, and it finds faults and makes them small.
 
 use differential::cipher::Block;
-use differential::report;
 use differential::runs::Runs;
 use differential::sessions::Session;
-use differential::shrink::smallest;
 use differential::sides::{Proved, Reference, Run, Side};
 use std::cell::RefCell;
-use std::time::Duration;
+use told::found;
+
+mod told;
 
 /// May answer a write itself: tag, data, address.
 type Before = fn(&mut [u8], &[u8], usize) -> Option<u8>;
@@ -69,20 +69,6 @@ impl Side for Changed {
         self.run.inspect(|change| change(output, run));
         run
     }
-}
-
-/// The smallest case of a difference between the two, told, with its number of commands.
-fn found(left: &dyn Side, right: &dyn Side) -> (usize, String) {
-    let mut runs = Runs::new(1, left, right);
-    let found = runs.many(60_000).expect_err("a difference");
-    let (case, failure) = smallest(
-        &mut runs.pair,
-        found.case.clone(),
-        found.failure.clone(),
-        Duration::from_secs(5),
-    );
-    let told = report::difference(1, &found, &case, &failure);
-    (report::size(&case), told)
 }
 
 fn seen(seed: u64, cases: std::ops::Range<u64>) -> Vec<(usize, Vec<u8>)> {
