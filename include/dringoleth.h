@@ -14,9 +14,9 @@
  * alone. A call needs at most DRINGOLETH_STACK_BYTES of stack. Calls on different tags and sessions may run at the same
  * time. It is built for x86-64 and System V calls.
  *
- * Power that fails within a call is the caller's matter. The library works on memory and stores byte by byte: if the
- * call does not return, some of its bytes may be stored and others not, in the tag and in the session. A caller whose
- * tag lasts keeps a copy until the call has returned.
+ * Power that fails within a call is the caller's matter. The library works on memory, and stores in no order that is
+ * promised: if a call does not return, some of its bytes may be stored and others not, in the tag and in the session. A
+ * caller whose tag lasts keeps a copy until the call has returned.
  */
 #ifndef DRINGOLETH_H
 #define DRINGOLETH_H
@@ -103,10 +103,12 @@ uint8_t dringoleth_advance(uint8_t *tag, size_t tag_len, const uint8_t session[D
  * reader ID segment, from 8192 on, in rows of 18 bytes: id (16) and segment number plus one (2). The first id of zeros
  * ends the list.
  *
- * With x hosts listed, for each host i of them: the new id is XORed into slot x + 1 of host i, id i into slot i of the
- * new host; the XOR of both masks into both keys; and both masks become zeros. Then the new host gets row x + 1, and
- * its segment is at stage 1: it can be read, and no longer written. A host that reads its slot for another finds the
- * other's id, and the XOR of the key there with the key that it wrote is the same for both: the key that they share.
+ * Rows and slots are counted from 0: row i is at 8192 + 18 i, slot j at 48 j from its segment's start, and slot j belongs
+ * to row j. With x hosts listed, for each row i below x: the new id is XORed into slot x of that host's segment, the id
+ * of row i into slot i of the new host's; the XOR of both masks into both keys; and both masks become zeros. Then the new
+ * host gets row x, and its segment is at stage 1: it can be read, and no longer written. A host that reads its slot for
+ * another finds the other's id, and the XOR of the key there with the key that it wrote is the same for both: the key
+ * that they share.
  *
  * It is refused as a write is for an ill-formed unit (5), the write PIN (7) and the name (8), and then
  *   14  if the segment is not model 4 at stage 0;
