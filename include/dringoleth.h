@@ -39,10 +39,8 @@ extern "C" {
  *   38   PA: PIN index (2), owner index (2), guard (12)
  *
  * dringoleth_power_up makes it all zeros; call it when the tag gets power. Hand the same 54 bytes to each command after
- * that. A validated index lasts until power-up, until another of its kind takes its place, or until a COMMIT to it is
- * granted: that makes it 0, and who gave the old PIN must give the new one. A COMMIT changes the session that is lent to
- * it and no other: a copy made before keeps the old index, so keep one session for a tag. Any 54 bytes are a session, and
- * whoever can write them can pretend to have given a PIN: keep them where the host cannot reach.
+ * that. Any 54 bytes are a session, and whoever can write them can pretend to have given a PIN: keep them where the host
+ * cannot reach.
  */
 #define DRINGOLETH_SESSION_BYTES 54
 
@@ -88,9 +86,9 @@ uint8_t dringoleth_read(const uint8_t *tag, size_t tag_len, const uint8_t sessio
                         size_t address, size_t count, uint8_t *output, size_t output_len);
 
 /* Writes the data at the address: into a segment, a unit (an edit), the roll-back counter or a register. A register
- * write changes the session; a COMMIT makes each validated index 0 that is the PIN index in PA. The unit of a listed
- * host's segment takes no edit (13). 18 tells that this very value is stored: a write that is sent again was
- * carried out before, by this caller or by another. Nothing was changed, also not the flag.
+ * write changes the session. The unit of a listed host's segment takes no edit (13). 18 tells that this very value is
+ * stored: a write that is sent again was carried out before, by this caller or by another. Nothing was changed, also not
+ * the flag.
  * Returns 0, 1, 2, 3, 4, 5, 6, 7, 8, 9, 10, 11, 12, 13 or 18. */
 uint8_t dringoleth_write(uint8_t *tag, size_t tag_len, uint8_t session[DRINGOLETH_SESSION_BYTES], size_t address,
                          const uint8_t *data, size_t data_len);

@@ -2,7 +2,6 @@
 
 use crate::cipher::{self, Block};
 use crate::commands::Command;
-use crate::commits::{self, Commit};
 use crate::demand;
 use crate::edits;
 use crate::map::{self, Map, Place, Register, COUNTER, FLAG, PINS, SEGMENT, SEGMENTS};
@@ -11,23 +10,24 @@ use crate::sessions::{self, Session};
 use crate::slips;
 use crate::slots;
 use crate::spans;
-use crate::units::{self, Kind, Unit, PN};
-use crate::uses::Use;
+use crate::units::{self, Kind, Unit, PN, RDPIN, WRPIN};
 use crate::values;
 
-/// What a host is working towards: a use of the segment with this number, or a COMMIT.
+/// What a host is working towards. A commit keeps the PA and the bytes it was prepared with.
 #[derive(Clone, Debug)]
 enum Goal {
-    Use(Use, usize),
-    Commit(Commit),
+    Read(usize),
+    Write(usize),
+    Edit(usize),
+    Advance(usize),
+    Insert(usize),
+    Commit { pa: Block, data: Block },
 }
 
 /// One host over one case.
 pub struct Aim {
     map: Map,
     goal: Goal,
-    /// Uses to be tried after a COMMIT, whatever is validated then.
-    uses: Vec<(Use, usize)>,
     /// Steps left before another goal is taken: a full counter can keep this one out of reach.
     patience: usize,
 }
@@ -61,7 +61,7 @@ impl View<'_> {
         sessions::index(self.session, sessions::PA + 2)
     }
 
-    pub fn flag_is_set(&self) -> bool {
+    fn flag_is_set(&self) -> bool {
         self.tag[FLAG] != 0
     }
 }
@@ -70,8 +70,7 @@ impl Aim {
     pub fn new(map: Map) -> Aim {
         Aim {
             map,
-            goal: Goal::Use(Use::Read, 0),
-            uses: Vec::new(),
+            goal: Goal::Read(0),
             patience: 0,
         }
     }
@@ -90,40 +89,20 @@ impl Aim {
     }
 
     fn step(&mut self, random: &mut Random, view: View) -> Command {
-        if let Some((how, k)) = self.uses.pop() {
-            return make_use(random, view, how, k);
-        }
         if self.patience == 0 {
             self.goal = some_goal(random, view, self.map);
             self.patience = 8;
         }
         self.patience -= 1;
+        let goal = self.goal.clone();
         // Now and then without what is asked for.
         if random.percent(85) {
-            if let Some(command) = self.prepare(random, view) {
+            if let Some(command) = prepare(random, view, &goal) {
                 return command;
             }
         }
         self.patience = 0;
-        self.reach(random, view)
-    }
-
-    /// The next command still wanted before the goal's own, if one is.
-    fn prepare(&self, random: &mut Random, view: View) -> Option<Command> {
-        match &self.goal {
-            Goal::Use(how, k) => prepare_use(random, view, *how, *k),
-            Goal::Commit(commit) => commit.prepare(view),
-        }
-    }
-
-    fn reach(&mut self, random: &mut Random, view: View) -> Command {
-        match &self.goal {
-            Goal::Use(how, k) => make_use(random, view, *how, *k),
-            Goal::Commit(commit) => {
-                self.uses = commits::some_uses(random, view, self.map);
-                commit.command()
-            }
-        }
+        reach(random, view, goal)
     }
 }
 
@@ -157,26 +136,50 @@ fn mostly_of(random: &mut Random, view: View, map: Map, kind: Kind) -> usize {
 
 fn some_goal(random: &mut Random, view: View, map: Map) -> Goal {
     let segment = map::some_number(random, map.segments);
-    match random.below(25) {
-        0..6 => Goal::Use(Use::Read, segment),
-        6..9 => Goal::Use(Use::Write, segment),
-        9..12 => Goal::Use(Use::Write, mostly_of(random, view, map, Kind::Model2)),
-        12..16 => Goal::Use(Use::Edit, segment),
-        16..18 => Goal::Use(Use::Advance, segment),
-        18..22 => Goal::Use(Use::Insert, mostly_of(random, view, map, Kind::Stream)),
-        _ => Goal::Commit(commits::some_commit(random, view)),
+    match random.below(24) {
+        0..6 => Goal::Read(segment),
+        6..9 => Goal::Write(segment),
+        9..12 => Goal::Write(mostly_of(random, view, map, Kind::Model2)),
+        12..16 => Goal::Edit(segment),
+        16..18 => Goal::Advance(segment),
+        18..22 => Goal::Insert(mostly_of(random, view, map, Kind::Stream)),
+        _ => some_commit(random, view),
     }
 }
 
-/// The next command still wanted before a use, if one is.
-fn prepare_use(random: &mut Random, view: View, how: Use, k: usize) -> Option<Command> {
-    let unit = map::unit(view.tag, k);
-    let register = how.register();
-    let held = sessions::validated(view.session, register);
-    if let Some(asked) = units::asked(unit, register).filter(|&asked| asked != held && asked <= 255) {
-        return Some(validate(random, view, register, asked));
+/// A commit with a guard that is mostly right; where it is not, often in one byte alone.
+fn some_commit(random: &mut Random, view: View) -> Goal {
+    let mut data = [0; 16];
+    random.fill(&mut data);
+    let owner = random.below(4);
+    let index = units::some_index(random).max(1);
+    let sealed = cipher::enciphered(&view.block(16 + 16 * owner), &data);
+    let mut pa = [0; 16];
+    pa[..2].copy_from_slice(&index.to_be_bytes());
+    pa[3] = owner as u8;
+    pa[4..].copy_from_slice(&sealed[4..]);
+    if random.percent(30) {
+        random.spoil(&mut pa[4..]);
     }
-    if how != Use::Edit && unit[0] & PN != 0 && view.session[sessions::NAME..sessions::ID] != unit[units::NAME..] {
+    Goal::Commit { pa, data }
+}
+
+/// The next command still wanted before the goal's own, if one is.
+fn prepare(random: &mut Random, view: View, goal: &Goal) -> Option<Command> {
+    let (k, register, at, pin_bit, name) = match *goal {
+        Goal::Read(k) => (k, Register::Read, units::READ_INDEX, RDPIN, true),
+        Goal::Write(k) | Goal::Advance(k) | Goal::Insert(k) => (k, Register::Write, units::WRITE_INDEX, WRPIN, true),
+        Goal::Edit(k) => (k, Register::Edit, units::EDIT_INDEX, 0, false),
+        Goal::Commit { pa, .. } => return prepare_commit(view, &pa),
+    };
+    let unit = map::unit(view.tag, k);
+    let wanted = units::index(unit, at);
+    let asked = pin_bit == 0 || unit[0] & pin_bit != 0;
+    let held = sessions::index(view.session, 2 * register as usize);
+    if asked && held != wanted && wanted <= 255 {
+        return Some(validate(random, view, register, wanted));
+    }
+    if name && unit[0] & PN != 0 && view.session[sessions::NAME..sessions::ID] != unit[units::NAME..] {
         return Some(give_name(random, view, unit));
     }
     None
@@ -211,6 +214,16 @@ fn give_name(random: &mut Random, view: View, unit: &Unit) -> Command {
     Command::write_register(Register::Name, &cipher::xor(name, &mask))
 }
 
+fn prepare_commit(view: View, pa: &Block) -> Option<Command> {
+    if view.session[sessions::PA..] != *pa {
+        Some(Command::write_register(Register::Pa, pa))
+    } else if view.flag_is_set() {
+        Some(values::count_up(view, COUNTER))
+    } else {
+        None
+    }
+}
+
 fn write_pa(random: &mut Random, index: u16) -> Command {
     let mut pa = [0; 16];
     random.fill(&mut pa[2..]);
@@ -218,13 +231,14 @@ fn write_pa(random: &mut Random, index: u16) -> Command {
     Command::write_register(Register::Pa, &pa)
 }
 
-fn make_use(random: &mut Random, view: View, how: Use, k: usize) -> Command {
-    match how {
-        Use::Read => read_segment(random, view, k),
-        Use::Write => write_segment(random, view, k),
-        Use::Edit => edits::some_edit(random, k, map::unit(view.tag, k)),
-        Use::Advance => Command::Advance { segment: k },
-        Use::Insert => slots::some_insertion(random, view, k),
+fn reach(random: &mut Random, view: View, goal: Goal) -> Command {
+    match goal {
+        Goal::Read(k) => read_segment(random, view, k),
+        Goal::Write(k) => write_segment(random, view, k),
+        Goal::Edit(k) => edits::some_edit(random, k, map::unit(view.tag, k)),
+        Goal::Advance(segment) => Command::Advance { segment },
+        Goal::Insert(k) => slots::some_insertion(random, view, k),
+        Goal::Commit { data, .. } => Command::write_register(Register::Commit, &data),
     }
 }
 

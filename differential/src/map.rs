@@ -35,9 +35,6 @@ pub const ALL_REGISTERS: [Register; 7] = [
     Register::Pa,
 ];
 
-/// Those that validate an index, which stand in this order in a session too.
-pub const VALIDATING: [Register; 3] = [Register::Read, Register::Write, Register::Edit];
-
 impl Register {
     pub fn address(self) -> usize {
         REGISTERS + 16 * self as usize

@@ -9,7 +9,6 @@ use crate::images::{self, Image, LARGEST};
 use crate::logs;
 use crate::map::{self, Place};
 use crate::outcome::{Calls, Outcome};
-use crate::pin_table::Withdrawn;
 use crate::random::Random;
 use crate::seats;
 use crate::sessions::{self, Session, POWER_UP};
@@ -48,7 +47,6 @@ struct Making {
     image: Image,
     session: Session,
     aim: Aim,
-    withdrawn: Withdrawn,
     commands: Vec<Command>,
     calls: Calls,
 }
@@ -67,7 +65,6 @@ impl Making {
             random,
             image,
             session,
-            withdrawn: Withdrawn::default(),
             commands: Vec::new(),
             calls: Calls::default(),
         }
@@ -89,7 +86,11 @@ impl Making {
                 _ => spans::some_span(&mut self.random, self.image.map),
             };
         }
-        self.aim.next(&mut self.random, view(pair), self.commands.last())
+        let view = View {
+            tag: pair.tag(),
+            session: pair.session(),
+        };
+        self.aim.next(&mut self.random, view, self.commands.last())
     }
 
     fn case(self) -> Case {
@@ -100,13 +101,6 @@ impl Making {
             log: None,
             variation: None,
         }
-    }
-}
-
-fn view<'p>(pair: &'p Pair) -> View<'p> {
-    View {
-        tag: pair.tag(),
-        session: pair.session(),
     }
 }
 
@@ -181,17 +175,13 @@ impl<'a> Runs<'a> {
         let command = if for_log { command.for_log() } else { command };
         self.count_ill_formed(making, &command);
         let row = table::row_of(self.pair.tag(), &command);
-        let seats = seats::seats_of(view(&self.pair), making.withdrawn, &command);
-        let withdrawn = making.withdrawn.after(view(&self.pair), &command);
+        let seat = seats::seat_of(self.pair.tag(), &command);
         let answer = making.calls.call(&mut self.pair, &command);
         let index = making.commands.len();
         making.commands.push(command);
         let answer = answer.map_err(|what| Failure { command: index, what })?;
         self.tally.call(&making.commands[index], row, answer);
-        seats.into_iter().for_each(|seat| self.tally.seat(seat, answer));
-        if answer == 0 {
-            making.withdrawn = withdrawn;
-        }
+        seat.inspect(|seat| self.tally.seat(*seat, answer));
         if making.image.map == LARGEST && answer == 0 {
             self.tally.in_largest(table::place_of(LARGEST, &making.commands[index]));
         }

@@ -1,6 +1,5 @@
 //! Sessions as 54 bytes, as both sides are given them: three indexes, name, ID, PA.
 
-use crate::map::Register;
 use crate::random::Random;
 use crate::units::{self, Unit};
 
@@ -29,16 +28,11 @@ pub fn index(session: &Session, at: usize) -> u16 {
     u16::from_be_bytes([session[at], session[at + 1]])
 }
 
-/// The validated index of the kind that READ, WRITE or EDIT sets.
-pub fn validated(session: &Session, register: Register) -> u16 {
-    index(session, 2 * register as usize)
-}
-
 fn set_index(session: &mut Session, at: usize, index: u16) {
     session[at..at + 2].copy_from_slice(&index.to_be_bytes());
 }
 
-/// Power-up, or indexes, now and then alike, and a name that a unit asks for or does not, and PA prepared.
+/// Power-up, or indexes and a name that a unit asks for or does not, and PA prepared.
 pub fn some_session(random: &mut Random, unit: &Unit) -> Session {
     let mut session = POWER_UP;
     if random.percent(40) {
@@ -53,12 +47,6 @@ pub fn some_session(random: &mut Random, unit: &Unit) -> Session {
         let far = random.pick(&[256, 263, 0xFF00, 0xFFFF]);
         let wanted = units::index(unit, of);
         set_index(&mut session, at, random.pick(&[wanted, wanted, 0, other, far]));
-    }
-    if random.percent(25) {
-        let alike = units::some_index(random);
-        for at in [READ, WRITE, EDIT] {
-            set_index(&mut session, at, alike);
-        }
     }
     if random.percent(50) {
         session[NAME..ID].copy_from_slice(&unit[units::NAME..]);

@@ -85,7 +85,7 @@ impl Tally {
         rows[row][usize::from(answer)] += 1;
     }
 
-    /// Counts a command at one of its seats, which are those of `seats::seats_of` before it.
+    /// Counts a command at its seat too, which is that of `seats::seat_of` on the tag as it was before.
     pub fn seat(&mut self, (list, row): Seat, answer: u8) {
         let (_, _, counted) = LISTS[list as usize];
         if counted.contains(&answer) {

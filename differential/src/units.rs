@@ -1,6 +1,5 @@
 //! Units as the generator knows them: well-formed ones, and ones ill formed in each way.
 
-use crate::map::Register;
 use crate::random::Random;
 
 pub const RD: u8 = 0x80;
@@ -55,17 +54,6 @@ pub fn index(unit: &Unit, at: usize) -> u16 {
 
 fn set_index(unit: &mut Unit, at: usize, index: u16) {
     unit[at..at + 2].copy_from_slice(&index.to_be_bytes());
-}
-
-/// The index that a unit asks for, of the kind that a register validates. There is no PIN bit for edits.
-pub fn asked(unit: &Unit, register: Register) -> Option<u16> {
-    let (asks, at) = match register {
-        Register::Read => (unit[0] & RDPIN != 0, READ_INDEX),
-        Register::Write => (unit[0] & WRPIN != 0, WRITE_INDEX),
-        Register::Edit => (true, EDIT_INDEX),
-        _ => return None,
-    };
-    asks.then(|| index(unit, at))
 }
 
 pub fn kind(unit: &Unit) -> Kind {

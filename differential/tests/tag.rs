@@ -1,12 +1,9 @@
 //! The comparison itself: it repeats, it agrees, and it finds faults and makes them small.
 
 use differential::cipher::Block;
-use differential::map::Register;
-use differential::pin_table::USES;
 use differential::runs::Runs;
-use differential::sessions::{Session, NAME};
+use differential::sessions::Session;
 use differential::sides::{Proved, Reference, Run, Side};
-use differential::table::Row;
 use std::cell::RefCell;
 use told::found;
 
@@ -24,8 +21,6 @@ struct Changed {
     read: Option<fn(&mut [u8], u8)>,
     advance: Option<fn(usize)>,
     insert: Option<fn(&mut [u8], u8)>,
-    /// At a COMMIT: the session before it and after it.
-    commit: Option<fn(&Session, &mut Session)>,
     run: Option<fn(&mut [u8], Run)>,
     seen: RefCell<Vec<(usize, Vec<u8>)>>,
 }
@@ -51,11 +46,7 @@ impl Side for Changed {
         if let Some(answer) = self.before.and_then(|change| change(tag, data, address)) {
             return answer;
         }
-        let before = *session;
         let answer = Reference.write(tag, session, address, data);
-        if address == Register::Commit.address() {
-            self.commit.inspect(|change| change(&before, session));
-        }
         self.after.inspect(|change| change(tag, answer));
         answer
     }
@@ -227,23 +218,4 @@ fn a_repeat_that_both_sides_call_a_gap() {
             "write at header, by value, repeated, flag 1: 12"
         ]
     );
-}
-
-#[test]
-fn indexes_that_both_sides_keep_at_a_commit() {
-    let keep_them = || Changed {
-        commit: Some(|before, after| after[..NAME].copy_from_slice(&before[..NAME])),
-        ..Changed::default()
-    };
-    let (left, right) = (keep_them(), keep_them());
-    let mut runs = Runs::new(1, &left, &right);
-    // Without logs, as above.
-    for case in (0..3000).filter(|case| case % 3 != 2) {
-        runs.case(case, u64::MAX).expect("no difference");
-    }
-    let wrong = |(name, due): &Row| match due {
-        [7] => format!("use after a COMMIT, {name}: granted"),
-        _ => format!("use after a COMMIT, {name}: 7"),
-    };
-    assert_eq!(runs.tally.outside_the_set(), Vec::from_iter(USES.iter().map(wrong)));
 }

@@ -1,6 +1,6 @@
-//! The access control of document 01, with repeats told from gaps (L1), shared keys (L4) and changed PINs that close the
-//! door (L5) of document 02: an independent second program, written from the documents and not from the proved crates or
-//! their definitions. It has no dependencies and no proofs.
+//! The access control of document 01, with repeats told from gaps (L1) and shared keys (L4) of document 02: an
+//! independent second program, written from the documents and not from the proved crates or their definitions. It has
+//! no dependencies and no proofs.
 //!
 //! A tag is a slice of bytes lent by the caller, a session is kept beside it, and each command answers `Ok` or the
 //! lowest refusal that applies. A refused command changes nothing, except that a wrong response sets the usage flag.

@@ -40,9 +40,8 @@ fn uncover(tag: &mut [u8], session: &Session, written: &Block) -> Result<Block, 
     Ok(xor(written, &encipher_counter(tag, pin_address(index))))
 }
 
-/// Stores a new PIN that was sent covered by the owner's response, if the guard shows that the owner sent it, and takes
-/// its index back.
-fn commit(tag: &mut [u8], session: &mut Session, written: &Block) -> Answer {
+/// Stores a new PIN that was sent covered by the owner's response, if the guard shows that the owner sent it.
+fn commit(tag: &mut [u8], session: &Session, written: &Block) -> Answer {
     let index = pin_index(session)?;
     let owner = session.owner_index();
     require(index != 0 && owner <= 3, Refusal::BadRegisterWrite)?;
@@ -52,18 +51,7 @@ fn commit(tag: &mut [u8], session: &mut Session, written: &Block) -> Answer {
     require(proof[4..] == *session.guard(), Refusal::WrongResponse)?;
     let pin = xor(written, &encipher_counter(tag, owner_pin));
     tag[pin_address(index)..][..BLOCK].copy_from_slice(&pin);
-    withdraw(session, index);
     Ok(())
-}
-
-/// L5: "When a COMMIT is granted, any validated index equal to its position becomes 0." All three are compared, whether
-/// or not the PIN changes.
-fn withdraw(session: &mut Session, position: u16) {
-    for validated in [&mut session.read, &mut session.write, &mut session.edit] {
-        if *validated == position {
-            *validated = 0;
-        }
-    }
 }
 
 fn pin_index(session: &Session) -> Result<u16, Refusal> {

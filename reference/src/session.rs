@@ -1,7 +1,6 @@
 //! The session: what a powered tag holds beside its memory.
 
-/// Three validated indexes and three arrays; `Session::default()` is the session after power-up. A validated index
-/// lasts until power-down, until another replaces it, or until a COMMIT to its position is granted.
+/// Three validated indexes and three arrays; `Session::default()` is the session after power-up.
 #[derive(Clone, Debug, Default, PartialEq, Eq)]
 pub struct Session {
     /// The validated read index.

@@ -119,8 +119,8 @@ fn read_keys(tag: &[u8], session: &Session, number: usize, address: usize, outpu
     Ok(())
 }
 
-/// The header takes one write: the next value of the roll-back counter, which clears the flag. A repeat, 18, leaves the
-/// flag as it is, so that it does not make the value usable again.
+/// The header takes one write: the next value of the roll-back counter, which clears the flag. "18 at the roll-back
+/// counter leaves the flag as it is: a repeated counter write does not make the value usable again."
 fn write_header(tag: &mut [u8], address: usize, data: &[u8]) -> Answer {
     let written: [u8; 8] = data.try_into().map_err(|_| Refusal::NeverTaken)?;
     require(address == COUNTER, Refusal::NeverTaken)?;
@@ -163,7 +163,7 @@ fn write_segment(tag: &mut [u8], session: &Session, number: usize, address: usiz
 }
 
 /// A slot takes the value after its own. Slots stand at multiples of 8, and so do segments. The shape is looked at
-/// first: a bad one is 12, also when the bytes equal what is stored.
+/// first: "A bad shape stays 12 (at the header 4), also when the bytes equal what is stored."
 #[inline]
 fn write_slot(target: &mut [u8], address: usize, data: &[u8]) -> Answer {
     let slot: &mut [u8; SLOT] = target.try_into().map_err(|_| Refusal::NotNextValue)?;

@@ -2,9 +2,7 @@
 
 use crate::c;
 
-/// What a powered tag knows beside its memory: three validated indexes, and the name, ID and PA arrays. An index lasts until
-/// power-up, until another of its kind takes its place, or until a COMMIT to it is granted, which makes it 0. A copy made
-/// before that keeps the old index: keep one session for a tag.
+/// What a powered tag knows beside its memory: three validated indexes, and the name, ID and PA arrays.
 #[derive(Clone, Copy, Debug, PartialEq, Eq)]
 pub struct Session([u8; 54]);
 

@@ -5,23 +5,25 @@ use mathlib.Core.Bool.{Bool, true, false, ◌&&◌, not}
 use mathlib.Core.List.{List}
 use mathlib.Core.Option.{none, some}
 use native.Mathlib.Omega.{arith}
+use lib.ListN.{length}
 use lib.Dec.{eqb, ltb}
-use borrow.Author.Tests.{lt-ltb}
+use borrow.Author.Tests.{not-false, lt-ltb}
 use borrow.Rule.Slice.PartMut.{put_mid}
 use Rattle.rules.specs.declared.Stage.{Stage}
+use Rattle.rules.specs.declared.Stage.TheVariants.{Zero, One, Two}
 use Rattle.rules.specs.declared.Model.{Model}
 use Rattle.rules.specs.declared.Model.TheVariants.{Default, WriteOnce, Counter, Receiver, SharedKey}
 use Rattle.rules.specs.declared.Unit.{Unit}
 use Rattle.rules.specs.declared.Refusal.{Refusal}
-use Rattle.rules.specs.Bytes.{put, same}
+use Rattle.rules.specs.Bytes.{byte, put, same}
 use Rattle.rules.specs.Map.{sound, segments, unit_at}
-use Rattle.rules.specs.Units.{unit_of, unit_bytes, name_of}
+use Rattle.rules.specs.Units.{unit_of, unit_bytes, well_formed, name_of}
 use Rattle.rules.specs.State.{Cipher, State, state}
 use Rattle.rules.specs.Answers.{number_of, refusal_of}
 use Rattle.rules.specs.Refusals.{Checks, ◌when◌else◌, granted, lowest, advance_checks, can_advance, is_receiver}
 use Rattle.rules.specs.Effects.{apply, advance_stores, advanced, advance_move}
 use Rattle.rules.specs.Command.{advance, checks, refusal, after, after_by, stores, new_session}
-use Rattle.rules.proofs.Tests.{true_false, gives, leaves}
+use Rattle.rules.proofs.Tests.{true_false, passes, gives, leaves}
 use Rattle.rules.proofs.Refused.{not_11, refused_stays}
 use Rattle.layout.proofs.Laws.{unit_inside, unit_back}
 use Rattle.units.specs.declared.Decoded.TheVariants.{Unit as Whole}

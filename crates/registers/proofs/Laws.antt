@@ -19,7 +19,7 @@ use Rattle.rules.specs.Bytes.{part, put, number, same, xor}
 use Rattle.rules.specs.Map.{counter_bytes, flag_at, pin_at}
 use Rattle.rules.specs.State.{state, pin_index, owner_index, pin, owner, response, with_read, with_write, with_edit, with_name, with_id, with_pa}
 use Rattle.rules.specs.Refusals.{◌when◌else◌, granted, lowest, register_checks, block_checks, response_checks, name_checks, commit_checks}
-use Rattle.rules.specs.Effects.{apply, register_stores, revoked, register_session, commit_stores}
+use Rattle.rules.specs.Effects.{apply, register_stores, register_session, commit_stores}
 use Rattle.rules.proofs.Tests.{passes, or_false, gives, leaves, joined-three, followed, lowest_under}
 use Rattle.octets.proofs.Laws.{part_lent, length_lent, put_whole, block_whole, set_put}
 use Rattle.xxtea.specs.Block.{E}
@@ -142,10 +142,10 @@ module _ (t : List ℕ) (v : Session) (r : Register) (bs : List ℕ) (i : ℕ) (
   unfolding apply register_stores register_session pin_index pin
   takes_name name e f = rw (e, f, index, set_put flag_at 1 t)
 
-  pub takes_commit : (j : ℕ) (after : List ℕ) (w : Session) → r ≡ Commit → j ≡ number (part 2 2 v.pa)
-      → after ≡ apply (commit_stores E t i j bs) t → w ≡ revoked i v → state after w ≡ register_written (state t v) r bs
+  pub takes_commit : (j : ℕ) (after : List ℕ) → r ≡ Commit → j ≡ number (part 2 2 v.pa) → after ≡ apply (commit_stores E t i j bs) t
+      → state after v ≡ register_written (state t v) r bs
   unfolding apply register_stores register_session pin_index owner_index
-  takes_commit j after w e f g h = rw (e, g, h, index, f)
+  takes_commit j after e f g = rw (e, g, index, f)
 
 module _ (t : List ℕ) (v : Session) (r : Register) (bs new : List ℕ) (whole : length bs ≡ 16)
     (copied : new ≡ put 0 bs (replicate 16 0)) where

@@ -1,7 +1,7 @@
 // The registers of a tag: what judges a write to one, and what a granted one does. Document 01, "What a command does",
-// READ, WRITE, EDIT, NAME, ID, COMMIT and PA; document 02, L5: the session after a COMMIT. The definitions that the
-// contracts cite are in `rules`, Refusals.antt and Effects.antt. Both public functions ask for what their callers, the
-// commands, have seen already: a tag that reaches beyond the PIN segment and, to carry a write out, that it was judged.
+// READ, WRITE, EDIT, NAME, ID, COMMIT and PA. The definitions that the contracts cite are in `rules`, Refusals.antt and
+// Effects.antt. Both public functions ask for what their callers, the commands, have seen already: a tag that reaches
+// beyond the PIN segment and, to carry a write out, that it was judged.
 ghost use Rattle.std.specs.Prelude.{◌≡◌, ◌+◌, ◌≤◌, length};
 ghost use Rattle.rules.specs.Bytes.{part, same, xor};
 ghost use Rattle.rules.specs.Map.{readers_at};
@@ -9,7 +9,7 @@ ghost use Rattle.rules.specs.State.{state, response};
 ghost use Rattle.rules.specs.State as states;
 ghost use Rattle.rules.specs.Answers.{refusal_of};
 ghost use Rattle.rules.specs.Refusals.{lowest, response_checks, name_checks, commit_checks, register_checks};
-ghost use Rattle.rules.specs.Effects.{apply, commit_stores, revoked_index, revoked};
+ghost use Rattle.rules.specs.Effects.{apply, commit_stores};
 ghost use Rattle.xxtea.specs.Block.{E};
 ghost use Rattle.registers.specs.Registers.{Taken, register_written};
 
@@ -117,33 +117,14 @@ fn masked(tag: &[u8], key: usize, data: &[u8]) -> [u8; 16]
     bytes
 }
 
-// A validated index after a COMMIT to a position.
-fn revoked_index(position: usize, index: usize) -> usize
-    ensures { result ≡ revoked_index position index }
-{
-    if index == position { 0 } else { index }
-}
-
-// The session after a COMMIT to a position: each validated index that is the position is 0.
-fn revoked(position: usize, session: Session) -> Session
-    ensures { result ≡ revoked position session }
-{
-    let mut next = session;
-    next.read = revoked_index(position, session.read);
-    next.write = revoked_index(position, session.write);
-    next.edit = revoked_index(position, session.edit);
-    next
-}
-
-// COMMIT: a new PIN, and its index revoked.
-fn commit(tag: &mut [u8], session: Session, pin: usize, owner: usize, data: &[u8]) -> Session
+// COMMIT: a new PIN.
+fn commit(tag: &mut [u8], pin: usize, owner: usize, data: &[u8])
     requires { (readers_at ≤ length tag.old) × (pin ≤ 255) × (owner ≤ 3) × (length «data».now ≡ 16) }
-    ensures { (tag.new ≡ apply (commit_stores E tag.old pin owner «data».now) tag.old) × (result ≡ revoked pin session) }
+    ensures { tag.new ≡ apply (commit_stores E tag.old pin owner «data».now) tag.old }
 {
     let new = masked(tag, layout::OWNERS + 16 * owner, data);
     tag[layout::FLAG] = 1;
     octets::store_at(tag, layout::PINS + 16 * pin, &new);
-    revoked(pin, session)
 }
 
 // A granted write of a register.
@@ -176,7 +157,7 @@ pub fn take(tag: &mut [u8], session: Session, register: Register, data: &[u8]) -
             let id = octets::sixteen(data);
             next.id = id;
         }
-        Register::Commit => next = commit(tag, session, pin, octets::number16(&pa, 2), data),
+        Register::Commit => commit(tag, pin, octets::number16(&pa, 2), data),
         Register::Pa => {
             let new = octets::sixteen(data);
             next.pa = new;

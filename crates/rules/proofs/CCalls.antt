@@ -20,10 +20,10 @@ use Rattle.rules.specs.declared.Place.TheVariants.{Header, Hidden, RegisterOf, P
 use Rattle.rules.specs.declared.Stop.{Stop}
 use Rattle.rules.specs.declared.Stop.TheVariants.{End, BadCommand, OutputFull}
 use Rattle.rules.specs.Bytes.{byte, part, number, number_from, bytes_of}
-use Rattle.rules.specs.State.{Cipher, State, pin_index, powered_up, with_read, with_write, with_edit, with_name, with_id, with_pa}
+use Rattle.rules.specs.State.{Cipher, State, state, pin_index, powered_up, with_read, with_write, with_edit, with_name, with_id, with_pa}
 use Rattle.rules.specs.Answers.{refusal_of, stop_number, code_of}
 use Rattle.rules.specs.Refusals.{Checks, ◌when◌else◌, lowest, register_checks, block_checks, response_checks, write_checks}
-use Rattle.rules.specs.Effects.{revoked_index, revoked, register_session, write_session}
+use Rattle.rules.specs.Effects.{register_session, write_session}
 use Rattle.rules.specs.Command.{Command, read, write, advance, insert, power_up, refused, refusal, reply, after, after_by, new_session, session_in}
 use Rattle.rules.specs.Log.{Parsed, end, unreadable, ◌taking◌then◌, encoded, room_for, stopped, onward, carried_out, run_log, Ran, parsed}
 use Rattle.rules.specs.Runs.{run_over, result_of}
@@ -149,17 +149,9 @@ response_index : (E : Cipher) (t : List ℕ) (i : ℕ) (bs : List ℕ) → lowes
 unfolding response_checks
 response_index E t i bs e = let l = leb-true i 255 (not-false _ (passes _ _ _ e).0) in omega arith
 
-revoked_fits : (i j : ℕ) → j < 65536 → revoked_index i j < 65536
-unfolding revoked_index
-revoked_fits i j h = by (eqb j i)
-  where
-    by : (b : Bool) → cond b 0 j < 65536
-    by true = omega arith
-    by false = h
-
 register_fits : (E : Cipher) (s : State) (r : Register) (bs : List ℕ) → lowest (register_checks E s r bs) ≡ none
     → Fits s.session → Fits (register_session E s r bs)
-unfolding register_checks block_checks register_session revoked with_read with_write with_edit with_name with_id with_pa
+unfolding register_checks block_checks register_session with_read with_write with_edit with_name with_id with_pa
 register_fits E s Read bs e h =
     fit _ (response_index E s.tag _ bs (passes _ _ _ e).1) h.write_index h.edit_index h.name_size h.id_size h.pa_size
 register_fits E s Write bs e h =
@@ -170,10 +162,7 @@ register_fits E s Name bs e h =
     fit _ h.read_index h.write_index h.edit_index (length-xor bs _ ∙ sixteen 9 _ bs e) h.id_size h.pa_size
 register_fits E s Id bs e h =
     fit _ h.read_index h.write_index h.edit_index h.name_size (sixteen 9 _ bs e) h.pa_size
-register_fits E s Commit bs e h =
-    let i = pin_index s.session in
-    fit _ (revoked_fits i s.session.read h.read_index) (revoked_fits i s.session.write h.write_index)
-    (revoked_fits i s.session.edit h.edit_index) h.name_size h.id_size h.pa_size
+register_fits E s Commit bs e h = h
 register_fits E s Pa bs e h =
     fit _ h.read_index h.write_index h.edit_index h.name_size h.id_size (sixteen 9 _ bs e)
 

@@ -19,7 +19,7 @@ use Rattle.rules.specs.Hosts.{Host}
 use Rattle.rules.specs.State.{Cipher, State, with_pa, pin, pin_index, response, with_read, enciphered_counter}
 use Rattle.rules.specs.Refusals.{lowest, write_checks, register_checks, block_checks, header_write_checks, response_checks, is_shared_key, hides}
 use Rattle.rules.specs.Effects.{apply, write_stores, write_session, register_stores, register_session}
-use Rattle.rules.specs.Command.{write, refusal, done, reply, after, reply_by, grant, read, gives}
+use Rattle.rules.specs.Command.{write, refusal, done, reply, after, reply_by, after_by, grant, stores, stores_in, new_session, session_in, read, gives}
 use Rattle.rules.specs.Run.{replies}
 use Rattle.rules.specs.Claims.{Holds}
 use Rattle.rules.specs.FourCommands.{HostMayRead, HostReads, four_commands}
@@ -28,7 +28,7 @@ use Rattle.rules.proofs.Values.{value_next}
 use Rattle.rules.proofs.BytesLaws.{same_refl, byte_put, length-put, part-put, part_put_same, length-bytes_of, number_bytes_of, part-front}
 use Rattle.rules.proofs.MapLaws.{sound-facts, sound_long, sound-flag, sound-put, segments-put}
 use Rattle.rules.proofs.Places.{place_found, register_holds, header_holds}
-use Rattle.rules.proofs.Grants.{reply_is, judged_there, granted_after}
+use Rattle.rules.proofs.Grants.{judged_there}
 use Rattle.rules.proofs.GrantedRead.{rights, segment_read}
 
 -- ---- a write that no check refuses
@@ -43,8 +43,8 @@ module _ (E : Cipher) (s : State) (p : Place) (a : ℕ) (bs : List ℕ) (w : sou
 
   write_done : (reply E s (write a bs) ≡ done)
       × (after E s (write a bs) ≡ record { tag = apply (write_stores E s p a bs) s.tag; session = write_session E s p bs })
-  unfolding reply_by grant
-  write_done = (reply_is E s (write a bs) none free, granted_after E s a bs p free found)
+  unfolding reply after reply_by after_by grant stores stores_in new_session session_in
+  write_done = (rw free, rw (free, found))
 
 -- ---- 1. PA
 

@@ -18,10 +18,10 @@ use Rattle.rules.specs.Map.{sound, place_of, segments}
 use Rattle.rules.specs.Units.{unit_of, unit_bytes}
 use Rattle.rules.specs.State.{Cipher, State, pin_index}
 use Rattle.rules.specs.Refusals.{lowest, write_checks, Checks, header_write_checks, register_checks, block_checks, commit_checks, segment_write_checks, value_checks, slot_checks, edit_checks, can_advance, advance_checks}
-use Rattle.rules.specs.Effects.{Store, refusal_stores, apply, write_stores, write_session}
-use Rattle.rules.specs.Command.{Command, stores, refusal, after, after_by, reply, reply_by, refused, done, write, in_place, checks, stores_in, new_session, session_in, advance}
+use Rattle.rules.specs.Effects.{Store, refusal_stores, apply, write_stores}
+use Rattle.rules.specs.Command.{Command, stores, refusal, after, after_by, reply, reply_by, refused, done, write, in_place, checks, stores_in, advance}
 use Rattle.rules.specs.Claims.{Holds}
-use Rattle.rules.proofs.Tests.{some_none, same_some, passes, leaves, and_true, true_false}
+use Rattle.rules.proofs.Tests.{some_none, passes, leaves, and_true, true_false}
 use Rattle.rules.proofs.Values.{value_granted}
 use Rattle.rules.proofs.MapLaws.{sound-facts}
 use Rattle.rules.proofs.Places.{place_found}
@@ -91,25 +91,10 @@ granted_write E s a bs e =
     let z : length bs ≢ 0 = eqb-false _ _ c2.0 in
     record { place = x.0; found = x.1; free = x.2; long = omega arith }
 
--- in a place that it is known to lie in
-pub granted_at : (E : Cipher) (s : State) (a : ℕ) (bs : List ℕ) (p : Place) → refusal E s (write a bs) ≡ none
-    → place_of s.tag a (length bs) ≡ some p → lowest (write_checks E s p a bs) ≡ none
-granted_at E s a bs p e f =
-    let g = granted_write E s a bs e in
-    let q : g.place ≡ p = same_some (sym g.found ∙ f) in
-    rw q at g.free
-
 pub stores_write : (E : Cipher) (s : State) (a : ℕ) (bs : List ℕ) (p : Place) → place_of s.tag a (length bs) ≡ some p
     → stores E s (write a bs) ≡ write_stores E s p a bs
 unfolding stores stores_in
 stores_write E s a bs p e = rw e
-
--- the state that it leaves
-pub granted_after : (E : Cipher) (s : State) (a : ℕ) (bs : List ℕ) (p : Place) → refusal E s (write a bs) ≡ none
-    → place_of s.tag a (length bs) ≡ some p
-    → after E s (write a bs) ≡ record { tag = apply (write_stores E s p a bs) s.tag; session = write_session E s p bs }
-unfolding after after_by stores stores_in new_session session_in
-granted_after E s a bs p e f = rw (e, f)
 
 -- ---- by place
 

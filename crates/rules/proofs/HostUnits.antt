@@ -98,8 +98,8 @@ at_stage_one u e f =
 pub inserted_open : (u : List ℕ) → well_formed u ≡ true → (unit_of u).model ≡ SharedKey Inserted → (unit_of u).rd ≡ true
 inserted_open u e f = (at_stage_one u e f).0
 
-pub inserted-closed : (u : List ℕ) → well_formed u ≡ true → (unit_of u).model ≡ SharedKey Inserted → (unit_of u).wr ≡ false
-inserted-closed u e f = (at_stage_one u e f).1
+pub inserted_closed : (u : List ℕ) → well_formed u ≡ true → (unit_of u).model ≡ SharedKey Inserted → (unit_of u).wr ≡ false
+inserted_closed u e f = (at_stage_one u e f).1
 
 -- the new host's unit after its insertion
 

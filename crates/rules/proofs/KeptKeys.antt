@@ -33,7 +33,7 @@ use Rattle.rules.proofs.Grants.{made_by, granted_write, stores_write, advance_fa
 use Rattle.rules.proofs.GrantedRead.{rights, segment_read}
 use Rattle.rules.proofs.HostsLaws.{HostFits, Inserting, insert_facts}
 use Rattle.rules.proofs.HostList.{each_at, at_host, any_at, few_hosts}
-use Rattle.rules.proofs.HostUnits.{stages_differ, inserted-closed, inserted_open}
+use Rattle.rules.proofs.HostUnits.{stages_differ, inserted_closed, inserted_open}
 use Rattle.rules.proofs.Lawful.{sound_stays, write_off, advance_off, insert_off, refusal_off}
 use Rattle.rules.proofs.SharedKeys.{insert_sound, all-beside, spared, list_grows, unit_inserted, pairs_joined, insertion_leaves}
 use Rattle.rules.proofs.SharedReads.{slot-shown}
@@ -76,7 +76,7 @@ module _ (E : Cipher) (s : State) (l p j : ℕ) (w : sound s.tag ≡ true) (u : 
   unfolding write_checks segment_write_checks
   write_closed a bs e =
       let x = (passes _ _ _ (passes _ _ _ e).1).0 in
-      true_false (sym (not-false _ x) ∙ inserted-closed (unit_bytes t l) u.formed u.stage)
+      true_false (sym (not-false _ x) ∙ inserted_closed (unit_bytes t l) u.formed u.stage)
 
   edit_closed : (a : ℕ) (bs : List ℕ) → lowest (write_checks E s (UnitOf l) a bs) ≡ none → ⊥
   unfolding write_checks edit_checks

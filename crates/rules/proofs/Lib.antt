@@ -18,7 +18,6 @@ pub mod Slots
 pub mod Counting
 pub mod Refused
 pub mod Repeats
-pub mod Revocation
 pub mod Segments
 pub mod Copies
 pub mod Exchange

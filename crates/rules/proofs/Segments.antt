@@ -1,7 +1,7 @@
 -- A read or write inside one segment: 11 is none of its refusals, it leaves the session, and its stores are lawful
 -- ones.
 use Prim.Native.Nat.{ℕ, zero, suc, ◌≤◌}
-use mathlib.Core.Path.{◌≡◌, refl, ap, ap₂, ◌∙◌}
+use mathlib.Core.Path.{◌≡◌, refl, sym, ap, ap₂, ◌∙◌}
 use mathlib.Core.Logic.{◌≢◌, inl, inr}
 use mathlib.Core.Bool.{true, false}
 use mathlib.Core.List.{List, []}
@@ -18,12 +18,12 @@ use Rattle.rules.specs.Refusals.{lowest, write_checks, segment_write_checks, slo
 use Rattle.rules.specs.Effects.{Store, refusal_stores, write_session, apply}
 use Rattle.rules.specs.Command.{Command, read, write, refusal, checks, in_place, stores, after, after_by, new_session, session_in}
 use Rattle.rules.specs.Claims.{Applies, Holds}
-use Rattle.rules.proofs.Tests.{has, never-given}
+use Rattle.rules.proofs.Tests.{has, never-given, same_some}
 use Rattle.rules.proofs.Values.{slot_cases}
 use Rattle.rules.proofs.StoreLaws.{Each}
 use Rattle.rules.proofs.MapLaws.{sound-facts}
 use Rattle.rules.proofs.Places.{Numbered, controlled, open_to_all, place_found, placed}
-use Rattle.rules.proofs.Grants.{made_by, granted_write, granted_at, stores_write, after_tag}
+use Rattle.rules.proofs.Grants.{made_by, granted_write, stores_write, after_tag}
 use Rattle.rules.proofs.Lawful.{Lawful, write_lawful}
 use Rattle.rules.proofs.Refused.{lowest_given, eleven_sound, not_11 as command-not-11}
 
@@ -78,9 +78,10 @@ module _ (E : Cipher) (s : State) (k a n : ℕ) (p : Place) (w : sound s.tag ≡
   granted_place : (bs : List ℕ) → length bs ≡ n → refusal E s (write a bs) ≡ none
       → (place_of s.tag a (length bs) ≡ some p) × (lowest (write_checks E s p a bs) ≡ none)
   granted_place bs l e =
-      let long = (granted_write E s a bs e).long in
-      let f = place_found s.tag p a (length bs) (sound-facts s.tag w).most_segments long (rw l h) in
-      (f, granted_at E s a bs p e f)
+      let g = granted_write E s a bs e in
+      let f = place_found s.tag p a (length bs) (sound-facts s.tag w).most_segments g.long (rw l h) in
+      let q : g.place ≡ p = same_some (sym g.found ∙ f) in
+      (f, rw q at g.free)
 
   no_stores : (m : ℕ) → m ≢ 11 → refusal_stores m ≡ []
   unfolding refusal_stores

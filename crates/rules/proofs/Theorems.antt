@@ -8,7 +8,6 @@ use Rattle.rules.proofs.Counting.{one_answer_each}
 use Rattle.rules.proofs.Refused.{lowest_given, refusal_named, refused_changes_nothing}
 use Rattle.rules.proofs.Told.{answers_told}
 use Rattle.rules.proofs.Repeats.{repeat_told, never_both, copy_told}
-use Rattle.rules.proofs.Revocation.{index_lasts, commit_revokes, refused_until_validated}
 use Rattle.rules.proofs.Demand3.{demand_3}
 use Rattle.rules.proofs.Calls.{calls_follow, calls_demand_3, refused_leaves, refused_reads}
 use Rattle.rules.proofs.RunLaws.{runs_continue}
@@ -16,7 +15,7 @@ use Rattle.rules.proofs.Runs.{runs_leave, runs_demand_3}
 use Rattle.rules.proofs.CCalls.{called_is_call, run_called_is_run, nothing_lost, session_fits}
 use Rattle.rules.proofs.LogLaws.{log_is_its_commands}
 use Rattle.rules.proofs.FourCommands.{host_reads}
-use Rattle.rules.proofs.Examples.{starred_hold, insertions_hold, stages_hold, errors_shown, changed_pin_shown, readings_hold, not_empty, repeats_change}
+use Rattle.rules.proofs.Examples.{starred_hold, insertions_hold, stages_hold, errors_shown, readings_hold, not_empty, repeats_change}
 use Rattle.rules.proofs.Borders.{borders, command_borders}
 use Rattle.rules.proofs.SharedKeys.{insertion_leaves, list_grows, unit_inserted}
 use Rattle.rules.proofs.SharedReads.{reads_listed}
@@ -60,9 +59,6 @@ theorems =
       keys_shared = keys_shared;
       keys_read = keys_read;
       power_up_clears = power_up_clears;
-      index_lasts = index_lasts;
-      commit_revokes = commit_revokes;
-      refused_until_validated = refused_until_validated;
       host_reads = host_reads;
       one_answer_each = one_answer_each;
       log_is_its_commands = log_is_its_commands;
@@ -70,7 +66,6 @@ theorems =
       stages_hold = stages_hold;
       errors_shown = errors_shown;
       insertions_hold = insertions_hold;
-      changed_pin_shown = changed_pin_shown;
       readings_hold = readings_hold;
       borders = borders;
       command_borders = command_borders;

@@ -7,7 +7,7 @@ use Rattle.rules.specs.Hosts.{Host}
 use Rattle.rules.specs.State.{State, state, powered_up, pin, owner}
 use Rattle.rules.specs.Refusals.{list_refuses}
 use Rattle.rules.specs.Effects.{Store, ◌↤◌}
-use Rattle.rules.specs.Command.{Command, read, write, advance, insert, power_up, Reply, done, gives, refused, stores, new_session, after}
+use Rattle.rules.specs.Command.{Command, read, write, advance, insert, power_up, Reply, done, gives, refused, stores, new_session}
 use Rattle.rules.specs.Log.{first, encoded, room_for}
 use Rattle.rules.specs.Examples.{Example, asks, Hold, xor_cipher, eight, host_id}
 use Rattle.rules.specs.Borders.{Table, counted, below, unit_with, plain_unit, host}
@@ -288,27 +288,6 @@ effects =
 abbrev pub EffectsStored : Type 0
 EffectsStored = Table (λ c. (stores xor_cipher holder c, new_session xor_cipher holder c)) effects
 
--- the validated indexes after a COMMIT to 1, which is granted whatever they are: each of the three equal to it, all of them,
--- none, and one by its low byte alone
-abbrev pub indexes : Session → ℕ × ℕ × ℕ
-indexes v = (v.read, v.write, v.edit)
-
-abbrev pub after_commit : ℕ × ℕ × ℕ → ℕ × ℕ × ℕ
-after_commit x =
-    indexes (after xor_cipher (state border_tag (session x.0 x.1 x.2 7 (0 ∷ 1 ∷ 0 ∷ 3 ∷ []) 15)) (write 4064 (host_id 6))).session
-
-unfoldable pub commit_borders : List ((ℕ × ℕ × ℕ) × (ℕ × ℕ × ℕ))
-commit_borders =
-    ((1, 2, 3), (0, 2, 3))
-    ∷ ((2, 1, 3), (2, 0, 3))
-    ∷ ((2, 3, 1), (2, 3, 0))
-    ∷ ((1, 1, 1), (0, 0, 0))
-    ∷ ((0, 2, 257), (0, 2, 257))
-    ∷ []
-
-abbrev pub CommitsRevoke : Type 0
-CommitsRevoke = Table after_commit commit_borders
-
 -- ---- the command log: the kinds, the shortest body of each, one byte less, and more bytes behind a body; the replies and
 -- the room for them
 
@@ -385,7 +364,6 @@ pub record CommandBorders : Type 0 where
   pub refusals_given : RefusalsGiven
   pub insertions_judged : InsertionsJudged
   pub effects_stored : EffectsStored
-  pub commits_revoke : CommitsRevoke
   pub kinds_known : KindsKnown
   pub kinds_read : KindsRead
   pub replies_encoded : RepliesEncoded

@@ -1,5 +1,5 @@
 -- Document 01, "What a command does": what a granted command changes, and 11; document 02, L4: what an insertion
--- changes; L5: the session after a COMMIT. Assumes nothing.
+-- changes. Assumes nothing.
 -- The tag changes by stores, made one after another; the session by the functions of State.
 use Rattle.std.specs.Prelude.{ℕ, suc, ◌+◌, ◌-◌, ◌*◌, ◌/◌, ◌%◌, cond, List, [], ◌∷◌, ◌++◌, length, replicate, eqb}
 use Rattle.rules.specs.declared.Session.{Session}
@@ -126,15 +126,6 @@ register_stores E s Id bs = []
 register_stores E s Commit bs = commit_stores E s.tag (pin_index s.session) (owner_index s.session) bs
 register_stores E s Pa bs = []
 
--- document 02, L5: "When a COMMIT is granted, any validated index equal to its position becomes 0." The validated index j,
--- and all three of a session, after a COMMIT to position i.
-unfoldable pub revoked_index : (i j : ℕ) → ℕ
-revoked_index i j = cond (eqb j i) 0 j
-
-unfoldable pub revoked : ℕ → Session → Session
-revoked i v =
-    with_read (revoked_index i v.read) (with_write (revoked_index i v.write) (with_edit (revoked_index i v.edit) v))
-
 -- "that index becomes the validated index of this register's kind, the other two staying"; "the bytes XOR
 -- E_PIN(counter) become the session name"; "ID and PA registers: store 16 bytes in the session"
 unfoldable pub register_session : Cipher → State → Register → List ℕ → Session
@@ -144,7 +135,7 @@ register_session E s Edit bs = with_edit (pin_index s.session) s.session
 register_session E s Name bs =
     with_name (xor bs (response E (pin s.tag (pin_index s.session)) s.tag)) s.session
 register_session E s Id bs = with_id bs s.session
-register_session E s Commit bs = revoked (pin_index s.session) s.session
+register_session E s Commit bs = s.session
 register_session E s Pa bs = with_pa bs s.session
 
 -- ---- by place: a granted write of `bs` at `a`

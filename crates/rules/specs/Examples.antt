@@ -1,5 +1,4 @@
--- Document 01, "Drawer examples": those marked * as one list; and "Errors that look right". Document 02: insertions of hosts
--- (L4), a changed PIN (L5). Assumes nothing.
+-- Document 01, "Drawer examples": those marked * as one list; and "Errors that look right". Assumes nothing.
 use Rattle.std.specs.Prelude.{ℕ, ◌≡◌, ◌≢◌, true, List, [], ◌∷◌, ◌++◌, map, replicate}
 use Rattle.std.proofs.Math.Option.{Option, none}
 use Rattle.rules.specs.Bytes.{put, xor}
@@ -146,48 +145,11 @@ insertions =
     ∷ [])
     ∷ []
 
--- ---- document 02, L5: a segment that needs index 7 is read, until a COMMIT gives 7 another PIN (all zeros but a last 1);
--- then no more, and not by a response of the old PIN (which sets the flag), until the new one is validated
-
--- its unit has RDPIN set and names 7 for reading
-unfoldable pub seven_tag : List ℕ
-seven_tag = put 12292 (0 ∷ 7 ∷ []) (tag_with 0xC5 0x00)
-
-unfoldable pub changed_pin : List Example
-changed_pin =
-    sends (naming 0 7 seven_tag)
-    (write (register_at 0) (replicate 16 0)
-    ∷ read 16384 1 1
-    ∷ write 4 (eight 0 1)
-    ∷ write (register_at 5) (replicate 16 0)
-    ∷ read 16384 1 1
-    ∷ write 4 (eight 0 2)
-    ∷ write (register_at 0) (replicate 15 0 ++ 2 ∷ [])
-    ∷ read 16384 1 1
-    ∷ write 4 (eight 0 3)
-    ∷ write (register_at 0) (replicate 15 0 ++ 2 ∷ [])
-    ∷ read 16384 1 1
-    ∷ [])
-    (done
-    ∷ gives (0 ∷ [])
-    ∷ done
-    ∷ done
-    ∷ refused 7
-    ∷ done
-    ∷ refused 11
-    ∷ refused 7
-    ∷ done
-    ∷ done
-    ∷ gives (0 ∷ [])
-    ∷ [])
-    ∷ []
-
 -- ---- "Errors that look right". 1 and 5 are among the examples above.
 
 -- 2: after a wrong response the flag is set, and the same counter value takes no second guess, not even the right one.
 -- 4: with index 7 validated (its PIN is zeros, and so is the counter), a unit that has RDPIN set and names 0 refuses 7,
--- until 0 is validated again, or until power-up; document 02, L5: "a COMMIT to 7 then also lets 0 in again", one to 6 does
--- not.
+-- until 0 is validated again, or until power-up.
 unfoldable pub errors : List Example
 errors =
     sends (begin counter_tag)
@@ -205,18 +167,6 @@ errors =
     ∷ sends (naming 0 7 (tag_with 0xC5 0x00))
     (write (register_at 0) (replicate 16 0) ∷ read 16384 1 1 ∷ power_up ∷ read 16384 1 1 ∷ [])
     (done ∷ refused 7 ∷ done ∷ gives (0 ∷ []) ∷ [])
-    ∷ sends (naming 0 7 (tag_with 0xC5 0x00))
-    (write (register_at 0) (replicate 16 0)
-    ∷ write (register_at 6) (0 ∷ 6 ∷ replicate 14 0)
-    ∷ write 4 (eight 0 1)
-    ∷ write (register_at 5) (replicate 16 0)
-    ∷ read 16384 1 1
-    ∷ write (register_at 6) (0 ∷ 7 ∷ replicate 14 0)
-    ∷ write 4 (eight 0 2)
-    ∷ write (register_at 5) (replicate 16 0)
-    ∷ read 16384 1 1
-    ∷ [])
-    (done ∷ done ∷ done ∷ done ∷ refused 7 ∷ done ∷ done ∷ done ∷ gives (0 ∷ []) ∷ [])
     ∷ []
 
 -- 3: "Calling a repeated XOR write or register write harmless." The second XOR write takes the first one back. The

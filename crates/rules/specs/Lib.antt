@@ -16,7 +16,6 @@ pub mod Runs
 pub mod CCalls
 pub mod Claims
 pub mod Repeats
-pub mod Revocation
 pub mod SharedKeys
 pub mod FourCommands
 pub mod Examples

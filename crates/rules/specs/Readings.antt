@@ -1,13 +1,11 @@
--- Where document 01, or L4 or L5 of document 02, can be read in two ways and more than one command tells the readings
--- apart: inputs, with the answers of the reading that is taken. Borders.antt and CommandBorders.antt have the others.
--- docs/DECISIONS.md has each question under the name used here. Assumes nothing.
+-- Where document 01, or L4 of document 02, can be read in two ways and more than one command tells the readings apart: inputs,
+-- with the answers of the reading that is taken. Borders.antt has the others. docs/DECISIONS.md has each question under the name
+-- used here. Assumes nothing.
 use Rattle.std.specs.Prelude.{ℕ, ◌+◌, ◌*◌, List, [], ◌∷◌, ◌++◌, replicate}
 use Rattle.std.proofs.Math.Option.{none, some}
 use Rattle.rules.specs.Bytes.{put}
-use Rattle.rules.specs.Map.{register_at}
-use Rattle.rules.specs.State.{State, state, powered_up, with_read, with_pa}
-use Rattle.rules.specs.Command.{read, write, done, gives, refused, insert}
-use Rattle.rules.specs.Examples.{Example, sends, begin, counter_tag, seven_tag, host_id, host_tag, runs}
+use Rattle.rules.specs.Command.{write, done, refused, insert}
+use Rattle.rules.specs.Examples.{Example, sends, begin, counter_tag, host_id, host_tag, runs}
 
 -- a whole read needs 1 + count of room also where it is refused; a short body is a 15 and needs 2; a 15 without room
 -- is a 16 and writes nothing; the command that stops the run adds nothing to the bytes read
@@ -32,22 +30,5 @@ stale_rows =
     (done ∷ done ∷ refused 13 ∷ refused 19 ∷ [])
     ∷ []
 
--- index 7 validated for reading, a unit that needs it, and PA with 7 and an owner index; counter, flag, PIN 7 and guard are
--- zeros
-unfoldable pub validated_seven : (owner : ℕ) → State
-validated_seven o = state seven_tag (with_read 7 (with_pa (0 ∷ 7 ∷ 0 ∷ o ∷ replicate 12 0) powered_up))
-
--- a COMMIT of the PIN that stands already takes its index back too; refused 9, 10 or 11 it leaves it
-unfoldable pub same_pin : List Example
-same_pin =
-    sends (validated_seven 0) (write (register_at 5) (replicate 16 0) ∷ read 16384 1 1 ∷ []) (done ∷ refused 7 ∷ [])
-    ∷ sends (validated_seven 4)
-    (write (register_at 5) (replicate 16 0) ∷ read 16384 1 1 ∷ [])
-    (refused 9 ∷ gives (0 ∷ []) ∷ [])
-    ∷ sends (validated_seven 0)
-    (write (register_at 5) (replicate 16 9) ∷ read 16384 1 1 ∷ write (register_at 5) (replicate 16 0) ∷ read 16384 1 1 ∷ [])
-    (refused 11 ∷ gives (0 ∷ []) ∷ refused 10 ∷ gives (0 ∷ []) ∷ [])
-    ∷ []
-
 unfoldable pub readings : List Example
-readings = log_room ++ stale_rows ++ same_pin
+readings = log_room ++ stale_rows

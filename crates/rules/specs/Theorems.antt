@@ -1,6 +1,6 @@
 -- All that is proved of the rules, in one record. Each line says of which ciphers, states and commands a claim holds;
--- the claims themselves stand in Demand3, Calls, Runs, CCalls, Claims, Repeats, Revocation, SharedKeys, FourCommands,
--- Examples, Readings, Borders and CommandBorders. Assumes nothing.
+-- the claims themselves stand in Demand3, Calls, Runs, CCalls, Claims, Repeats, SharedKeys, FourCommands, Examples, Readings,
+-- Borders and CommandBorders. Assumes nothing.
 use Rattle.std.specs.Prelude.{ℕ, ◌<◌, ◌≡◌, true, List, length}
 use Rattle.std.proofs.Math.Option.{none, some}
 use Rattle.rules.specs.declared.Place.TheVariants.{Segment}
@@ -14,11 +14,10 @@ use Rattle.rules.specs.Runs.{RunsDemand3, RunsLeave, RunsContinue}
 use Rattle.rules.specs.CCalls.{CalledIsCall, RunCalledIsRun, NothingLost, SessionFits}
 use Rattle.rules.specs.Claims.{LowestGiven, RefusalNamed, AnswersTold, RefusedChangesNothing, TheMap, NoSpare, Sizes, SizesReached, SoundIs, SoundStays, LockedUnit, MovesExact, PowerUpClears, OneAnswerEach, LogIsItsCommands}
 use Rattle.rules.specs.Repeats.{RepeatTold, NeverBoth, CopyTold}
-use Rattle.rules.specs.Revocation.{IndexKind, Committed, Lasts, CommitRevokes, RefusedUntilValidated}
 use Rattle.rules.specs.Refusals.{is_shared_key}
 use Rattle.rules.specs.SharedKeys.{ReadsListed, InsertionLeaves, ListGrows, UnitInserted, KeysShared, KeysRead}
 use Rattle.rules.specs.FourCommands.{HostReads}
-use Rattle.rules.specs.Examples.{starred, insertions, Hold, stages, errors, changed_pin, xor_cipher, NotEmpty, RepeatsChange}
+use Rattle.rules.specs.Examples.{starred, insertions, Hold, stages, errors, xor_cipher, NotEmpty, RepeatsChange}
 use Rattle.rules.specs.Readings.{readings}
 use Rattle.rules.specs.Borders.{Borders}
 use Rattle.rules.specs.CommandBorders.{CommandBorders}
@@ -73,11 +72,8 @@ pub record Theorems : Type 0 where
       → UnitInserted (unit_bytes s.tag k) (unit_bytes (after E s (insert k id)).tag k)
   pub keys_shared : (E : Cipher) (s : State) (k : ℕ) (id : List ℕ) → refusal E s (insert k id) ≡ none → KeysShared E s k id
   pub keys_read : (E : Cipher) (s : State) (k : ℕ) (id : List ℕ) → refusal E s (insert k id) ≡ none → KeysRead E s k id
-  -- the session; what a changed PIN closes (document 02, L5)
+  -- the session
   pub power_up_clears : (E : Cipher) (s : State) → PowerUpClears E s
-  pub index_lasts : (E : Cipher) (s : State) (k : IndexKind) (c : Command) → Lasts E s k c
-  pub commit_revokes : (E : Cipher) (s : State) (i : ℕ) (c : Command) → Committed E s i c → CommitRevokes E s i c
-  pub refused_until_validated : (E : Cipher) (s : State) (i : ℕ) (c : Command) → Committed E s i c → RefusedUntilValidated E (after E s c) i
   pub host_reads : HostReads
   -- lists and logs
   pub one_answer_each : (E : Cipher) (s : State) (cs : List Command) → OneAnswerEach E s cs
@@ -87,7 +83,6 @@ pub record Theorems : Type 0 where
   pub stages_hold : Hold xor_cipher stages
   pub errors_shown : Hold xor_cipher errors
   pub insertions_hold : Hold xor_cipher insertions
-  pub changed_pin_shown : Hold xor_cipher changed_pin
   pub readings_hold : Hold xor_cipher readings
   pub borders : Borders
   pub command_borders : CommandBorders

@@ -138,15 +138,6 @@ impl Host {
         self.count()?;
         self.write(register, &self.response(pin))
     }
-
-    /// Has an owner's guard in PA and returns the bytes that store `pin` at `index`.
-    pub fn prepare(&mut self, index: u16, owner: u16, key: &Block, pin: Block) -> Block {
-        let written = xor(pin, self.response(key));
-        let mut bytes = pa(index, owner);
-        bytes[4..].copy_from_slice(&encipher_block(&written, key)[4..]);
-        self.session.pa = bytes;
-        written
-    }
 }
 
 /// What PA holds for a PIN index and an owner index, with a guard of zeros.

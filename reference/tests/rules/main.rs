@@ -1,6 +1,5 @@
-//! The rules of document 01 and of L1, L4 and L5 in document 02, tried from outside the crate.
+//! The rules of document 01 and of L1 and L4 in document 02, tried from outside the crate.
 
-mod changed_pins;
 mod commands;
 mod host;
 mod log;

@@ -1,6 +1,7 @@
 //! Register writes: responses, names and new PINs.
 
 use crate::host::*;
+use reference::xxtea::encipher_block;
 
 const FLAGGED: [usize; 5] = [READ, WRITE, EDIT, NAME, COMMIT];
 
@@ -115,6 +116,15 @@ fn names_are_sent_covered() {
     assert_eq!(host.read(SEGMENT, 1), Err(8));
 }
 
+/// Has an owner's guard in PA and returns the bytes that store `pin` at `index`.
+fn prepare(host: &mut Host, index: u16, owner: u16, key: &Block, pin: Block) -> Block {
+    let written = xor(pin, host.response(key));
+    let mut bytes = pa(index, owner);
+    bytes[4..].copy_from_slice(&encipher_block(&written, key)[4..]);
+    host.session.pa = bytes;
+    written
+}
+
 #[test]
 fn commit_stores_a_pin() {
     for (index, owner, pin) in [(1, 0, PIN), (255, 3, PIN), (7, 1, [0; 16])] {
@@ -124,7 +134,7 @@ fn commit_stores_a_pin() {
             .with(16 + 16 * usize::from(owner), &key);
         let mut expected = host.clone().with_pin(usize::from(index), pin);
         expected.tag[FLAG] = 1;
-        let written = host.prepare(index, owner, &key, pin);
+        let written = prepare(&mut host, index, owner, &key, pin);
         assert_eq!(host.write(COMMIT, &written), Ok(()));
         assert!(host.tag == expected.tag);
         assert_eq!(host.write(COMMIT, &written), Err(10));
@@ -135,7 +145,7 @@ fn commit_stores_a_pin() {
 #[test]
 fn commit_under_an_owner_pin_of_zeros() {
     let mut host = Host::new(1, 0);
-    let written = host.prepare(1, 2, &[0; 16], PIN);
+    let written = prepare(&mut host, 1, 2, &[0; 16], PIN);
     assert_eq!(host.write(COMMIT, &written), Ok(()));
     assert_eq!(host.tag[4112..4128], PIN);
 }
@@ -144,7 +154,7 @@ fn commit_under_an_owner_pin_of_zeros() {
 fn commit_with_a_wrong_guard() {
     for wrong in [4, 15] {
         let mut host = Host::new(1, 0).with(16, &PIN);
-        let written = host.prepare(1, 0, &PIN, [0x42; 16]);
+        let written = prepare(&mut host, 1, 0, &PIN, [0x42; 16]);
         host.session.pa[wrong] ^= 1;
         assert_eq!(host.write(COMMIT, &written), Err(11));
         host.session.pa[wrong] ^= 1;
@@ -157,7 +167,7 @@ fn commit_indexes() {
     for (index, owner) in [(0, 0), (256, 0), (1, 4), (1, 0x0100), (0xFFFF, 0xFFFF)] {
         for flag in [0, 1] {
             let mut host = Host::new(1, 0).with(FLAG, &[flag]);
-            let written = host.prepare(index, owner, &[0; 16], PIN);
+            let written = prepare(&mut host, index, owner, &[0; 16], PIN);
             assert_eq!(host.write(COMMIT, &written), Err(9));
         }
     }

@@ -1,6 +1,7 @@
 -- `moves::advance_sound` meets its contract: the unit moves, or all stays. Assumes nothing.
 use mathlib.Core.Path.{sym, ap, ◌∙◌}
 use native.Mathlib.Omega.{arith}
+use Rattle.rules.specs.Map.{unit_at}
 use Rattle.rules.specs.Answers.{refusal_of}
 use Rattle.rules.proofs.MapLaws.{sizes}
 use Rattle.moves.specs.Moves.{move_answer}

@@ -37,19 +37,16 @@ store-at-requires c κs =
     let long = ap length c.before.before.masked.ensures ∙ length-xor _ _ in
     simp length-set (omega arith)
 
-revoked-requires : tie.Need-revoked-requires
-revoked-requires c κs = search rules
-
 same_length : tie.Need-same-length
-same_length c = simp length-set at c.before.before.before.store_at.auto.0
+same_length c = simp length-set at c.before.before.store_at.auto.0
 
 returns : tie.Need-returns
 unfolding owner apply
 returns c =
-    let at = c.before.before.before in
+    let at = c.before.before in
     let masked = at.before.before.before in
-    let t = masked.before.before.before.before.args.tag.now in
-    (at.store_at.ensures ∙ rw (masked.masked.ensures, set_put flag_at 1 t), c.revoked.ensures)
+    at.store_at.ensures
+    ∙ rw (masked.masked.ensures, set_put flag_at 1 masked.before.before.before.before.args.tag.now)
 
 pub commit-spec : {M : Type 1} → statement M
 commit-spec =
@@ -63,6 +60,5 @@ commit-spec =
     add-store-at
     slice-aggregate-store-at
     store-at-requires
-    revoked-requires
     same_length
     returns)

@@ -161,8 +161,8 @@ returns-6 c =
     let told = second.before.before.before in
     let read = told.before.before in
     let a = (start read).args in
-    takes_commit a.tag.now a.session _ a.«data».now _ read.number16.ensures _ _ _ told.enum-told6.given.1
-    second.number162.ensures done.commit.ensures.0 done.commit.ensures.1
+    takes_commit a.tag.now a.session _ a.«data».now _ read.number16.ensures _ _ told.enum-told6.given.1
+    second.number162.ensures done.commit.ensures
 
 returns-7 : tie.Need-returns-7
 unfolding with_pa
