@@ -1,5 +1,7 @@
 // The command log: document 01, "The command log". What comes next, the room that its reply needs, and the bytes of
 // replies. The definitions behind the contracts are in `rules`, Log.antt.
+#![tactic(auto)]
+
 ghost use Rattle.std.specs.Prelude.{◌≡◌, ℕ, ◌≤◌, ◌<◌, List, length};
 ghost use Rattle.rules.specs.Bytes.{byte, put};
 ghost use Rattle.rules.specs.Answers.{number_of};
@@ -11,7 +13,7 @@ ghost use Rattle.command_log.specs.Next.{ComesNext, kind_of, command_at, length_
 use rules::{Answer, Refusal};
 
 // What comes next in a log, by its kind. A read and a write have the last digit of theirs, which tells their count.
-#[derive(Drop)]
+#[derive(Clone, Copy)]
 pub enum Next {
     PowerUp,
     Read(u8),

@@ -1,6 +1,8 @@
 // The host list in the reader ID segment, and the slots of hosts: document 02, L4. The definitions that the contracts
 // cite are in `rules`, Hosts.antt, Refusals.antt and Effects.antt. The functions on the list are handed the 4,096 bytes of
 // the reader ID segment, and the number of its rows where they go through them.
+#![tactic(auto)]
+
 ghost use Rattle.std.specs.Prelude.{◌≡◌, true, [], ◌∷◌, ◌+◌, ◌%◌, ◌≤◌, ◌<◌, length};
 ghost use Rattle.rules.specs.Bytes.{part, put, xor, Apart};
 ghost use Rattle.rules.specs.Hosts.{host_at, hosts_in, readers, any, has_id, twin};

@@ -1,5 +1,7 @@
 // The header, soundness and the places of a tag: document 01, "The memory map". The definitions that the contracts
 // cite are in `rules`, Map.antt.
+#![tactic(auto)]
+
 ghost use Rattle.std.specs.Prelude.{◌≡◌, true, ℕ, ◌+◌, ◌%◌, ◌^◌, ◌≤◌, ◌<◌, length};
 ghost use Rattle.rules.specs.Map.{segments, publics, most, smallest_tag, segments_at, sound, unit_at, rows, register_no, find, place_of};
 ghost use Rattle.rules.specs.Units.{unit_bytes};
@@ -36,7 +38,7 @@ const MOST: usize = 128;
 const SMALLEST: usize = 20480;
 
 // The place that holds a range of addresses, if one does.
-#[derive(Drop)]
+#[derive(Clone, Copy)]
 pub enum Found {
     In(Place),
     Outside,

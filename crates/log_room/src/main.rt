@@ -1,6 +1,8 @@
 // Runs short logs into outputs that are small, and prints for each what stopped the run, the bytes read and written, the
 // output and the slot that the log writes. The output has twelve bytes EE, of which only the first are lent to the run:
 // the others, and those past the bytes written, must stay. The expected output is in stdout.
+#![tactic(auto)]
+
 ghost use Rattle.std.specs.Prelude.{◌≤◌, length};
 
 use libc::STDOUT_FILENO;

@@ -1,6 +1,8 @@
 // The two commands that name a segment: document 01, "What a command does", the advance, and document 02, L4, the insertion
 // of a host. Each judges first, and touches nothing before its verdict. Their contracts are equations with the definitions
 // of `rules`, `CarriedOut` in Calls.antt, with XXTEA on blocks (`E`) as the cipher.
+#![tactic(auto)]
+
 ghost use Rattle.std.specs.Prelude.{◌≡◌, true, not, ◌<◌, length};
 ghost use Rattle.rules.specs.Map.{sound, segments};
 ghost use Rattle.rules.specs.Units.{unit_of};
@@ -17,7 +19,7 @@ use rules::{Answer, Model, Refusal, Session, Stage};
 use units::Decoded;
 
 // What an advance comes to: the unit leaves this stage.
-#[derive(Drop)]
+#[derive(Clone, Copy)]
 enum Move {
     Advance(Stage),
     Refuse(Refusal),

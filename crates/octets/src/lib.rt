@@ -1,6 +1,8 @@
 // Numbers, equality, stores and XOR over bytes. The definitions that the contracts cite are in `rules`, Bytes.antt.
 // What reads or stores at an address asks that the bytes are there: whoever calls has seen that already, and a second
 // test would be paid on every command.
+#![tactic(auto)]
+
 ghost use Rattle.std.specs.Prelude.{◌≡◌, ◌⊎◌, ◌+◌, ◌≤◌, ◌<◌, length, replicate};
 ghost use Rattle.rules.specs.Bytes.{bytes_of, number, part, put, same, xor, zeros};
 

@@ -1,6 +1,8 @@
 // Reads: document 01, "What a command does". A read is judged first, by a function for each place, and what is granted
 // goes to the start of the output. The contract of `read` is an equation with the definitions of `rules`, `CarriedOut`
 // in Calls.antt, with XXTEA on blocks (`E`) as the cipher.
+#![tactic(auto)]
+
 ghost use Rattle.std.specs.Prelude.{◌≡◌, true, ◌+◌, ◌%◌, ◌≤◌, ◌<◌, length};
 ghost use Rattle.std.proofs.Math.Option.{some};
 ghost use Rattle.rules.specs.Map.{sound, segments, place_of};

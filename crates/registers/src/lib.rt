@@ -2,6 +2,8 @@
 // READ, WRITE, EDIT, NAME, ID, COMMIT and PA. The definitions that the contracts cite are in `rules`, Refusals.antt and
 // Effects.antt. Both public functions ask for what their callers, the commands, have seen already: a tag that reaches
 // beyond the PIN segment and, to carry a write out, that it was judged.
+#![tactic(auto)]
+
 ghost use Rattle.std.specs.Prelude.{◌≡◌, ◌+◌, ◌≤◌, length};
 ghost use Rattle.rules.specs.Bytes.{part, same, xor};
 ghost use Rattle.rules.specs.Map.{readers_at};

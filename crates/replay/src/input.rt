@@ -5,7 +5,7 @@ use crate::words::{cannot, no_name, unreadable, wrong};
 use libc::STDIN_FILENO;
 
 // What came of reading: so many bytes at the start of the buffer, or nothing, and then it has been said why.
-#[derive(Drop)]
+#[derive(Clone, Copy)]
 pub enum Input {
     Whole(usize),
     Failed,

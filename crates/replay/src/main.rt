@@ -2,6 +2,8 @@
 // run is to be kept, the name of a new file for it. IMAGE is only read. The replies go to standard output, one a line in
 // capital hexadecimal; what stopped the run goes to standard error. A Rattle program has no exit status: ./replay looks
 // for a line that begins with `replay: ` on standard error.
+#![tactic(auto)]
+
 mod input;
 mod keeping;
 mod part;

@@ -7,7 +7,7 @@ ghost use Rattle.replay.specs.Whole.{PartRun};
 use rules::{Run, Session};
 
 // What a part came to, and how many characters its text has.
-#[derive(Drop)]
+#[derive(Clone, Copy)]
 pub struct Part {
     pub run: Run,
     pub characters: usize,

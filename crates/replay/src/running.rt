@@ -9,7 +9,7 @@ use libc::STDOUT_FILENO;
 use rules::{Run, Session, Stop};
 
 // What a run came to, and whether its replies were printed; where they were not, that has been said.
-#[derive(Drop)]
+#[derive(Clone, Copy)]
 pub struct Replayed {
     pub run: Run,
     pub printed: bool,

@@ -1,4 +1,6 @@
 // The replies of a run as text, one a line in capital hexadecimal. The definitions are in specs/Lines.antt.
+#![tactic(auto)]
+
 ghost use Rattle.std.specs.Prelude.{◌≡◌, ◌<◌, [], ◌∷◌, length};
 ghost use Rattle.rules.specs.Bytes.{part, put};
 ghost use Rattle.rules.specs.Log.{data_length};

@@ -1,4 +1,6 @@
 // Each direction undoes the other, said of the code: a caller's view of the claim in crates/xxtea/specs/Claims.antt.
+#![tactic(auto)]
+
 ghost use Rattle.std.specs.Prelude.{◌≡◌};
 
 // There and back with one key, then back and there with another: every word is as it was, at every length.

@@ -1,10 +1,11 @@
 //! The types that the rules (specs/) and the tag's code share, each declared once. specs/Answers.antt gives the numbers that
 //! document 01 has for the cases of the answers.
+#![tactic(auto)]
 
 /// "The session is kept by value beside the memory": three validated indexes, and the name, ID and PA arrays. The arrays
 /// stand first, so that a copy of 16 bytes at a time meets each as it was stored: a processor waits where one load spans
 /// two stores that were just made.
-#[derive(Drop)]
+#[derive(Clone, Copy)]
 pub struct Session {
     pub name: [u8; 16],
     pub id: [u8; 16],
@@ -15,7 +16,7 @@ pub struct Session {
 }
 
 /// The stages of model 3.
-#[derive(Drop)]
+#[derive(Clone, Copy)]
 pub enum Stage {
     Zero,
     One,
@@ -23,14 +24,14 @@ pub enum Stage {
 }
 
 /// The stages of model 4: before and after the insertion of the host that owns the segment.
-#[derive(Drop)]
+#[derive(Clone, Copy)]
 pub enum KeyStage {
     Filling,
     Inserted,
 }
 
 /// A segment's model, 0 to 4: "a record whose model carries its own stage".
-#[derive(Drop)]
+#[derive(Clone, Copy)]
 pub enum Model {
     Default,
     WriteOnce,
@@ -40,7 +41,7 @@ pub enum Model {
 }
 
 /// A unit, without its name: control bits, model, and the read, write and edit PIN index.
-#[derive(Drop)]
+#[derive(Clone, Copy)]
 pub struct Unit {
     pub rd: bool,
     pub rdpin: bool,
@@ -55,7 +56,7 @@ pub struct Unit {
 }
 
 /// The seven registers, in the order of their addresses.
-#[derive(Drop)]
+#[derive(Clone, Copy)]
 pub enum Register {
     Read,
     Write,
@@ -67,7 +68,7 @@ pub enum Register {
 }
 
 /// The places of the memory map. `Public(0)` is the first public segment.
-#[derive(Drop)]
+#[derive(Clone, Copy)]
 pub enum Place {
     Header,
     Hidden,
@@ -81,7 +82,7 @@ pub enum Place {
 }
 
 /// The refusals 1 to 15, 18 and 19, in the order of their numbers; 16 is a run's stop and 17 the cipher's.
-#[derive(Drop)]
+#[derive(Clone, Copy)]
 pub enum Refusal {
     Unsound,
     Count,
@@ -103,21 +104,21 @@ pub enum Refusal {
 }
 
 /// What a command answers. The bytes of a granted read stand in its output.
-#[derive(Drop)]
+#[derive(Clone, Copy)]
 pub enum Answer {
     Done,
     Refused(Refusal),
 }
 
 /// A command's answer, and the session after it, which stands first for the same reason.
-#[derive(Drop)]
+#[derive(Clone, Copy)]
 pub struct Outcome {
     pub session: Session,
     pub answer: Answer,
 }
 
 /// What ends a run over a log: its end, a 15 or a 16.
-#[derive(Drop)]
+#[derive(Clone, Copy)]
 pub enum Stop {
     End,
     BadCommand,
@@ -125,7 +126,7 @@ pub enum Stop {
 }
 
 /// What a run over a log returns: "bytes read .., bytes written, the stop (end, 15, 16) and the session".
-#[derive(Drop)]
+#[derive(Clone, Copy)]
 pub struct Run {
     pub read: usize,
     pub written: usize,

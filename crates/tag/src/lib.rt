@@ -1,6 +1,8 @@
 // The tag: everything that a user calls. Nothing is asked of the caller, and each contract fixes the answer and every
 // byte of tag, session and output by an equation with the definitions of `rules`, with XXTEA on blocks (`E`) as the
 // cipher: `CarriedOut` in Calls.antt, `run_over` in Runs.antt.
+#![tactic(auto)]
+
 ghost use Rattle.std.specs.Prelude.{◌≡◌, ◌+◌, ◌≤◌, length};
 ghost use Rattle.rules.specs.Map.{sound};
 ghost use Rattle.rules.specs.State.{state, powered_up};
@@ -90,7 +92,7 @@ fn reply_read(
 }
 
 // What a command of a log leaves beside the tag and its reply: the reply's length, and the session.
-#[derive(Drop)]
+#[derive(Clone, Copy)]
 struct Replied {
     written: usize,
     session: Session,

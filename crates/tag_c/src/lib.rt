@@ -1,6 +1,8 @@
 // The tag for C and Rust; include/dringoleth.h declares it. Nothing is asked of the caller but memory that it owns. The
 // session is 54 lent bytes, and an answer is its refusal number, 0 where the command is granted. The definitions that
 // the contracts cite are in `rules`, CCalls.antt: with the same rules and cipher as the contracts of `tag`.
+#![tactic(auto)]
+
 ghost use Rattle.std.specs.Prelude.{◌≡◌, length};
 ghost use Rattle.rules.specs.State.{powered_up};
 ghost use Rattle.rules.specs.Answers.{refusal_of, stop_number, code_of};

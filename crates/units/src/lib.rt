@@ -1,6 +1,8 @@
 // The management unit: what its bytes say, what an edit or an advance makes of it, and the rights that it gives. Document
 // 01, "The unit". The definitions that the contracts cite are in `rules`, Units.antt, Refusals.antt and Effects.antt. A
 // unit is its 32 bytes: whoever calls hands over just these.
+#![tactic(auto)]
+
 ghost use Rattle.std.specs.Prelude.{◌≡◌, true, not, ◌+◌, ◌≤◌, length};
 ghost use Rattle.rules.specs.Bytes.{put, same};
 ghost use Rattle.rules.specs.Units.{model_formed, name_of, unit_of, well_formed};
@@ -13,14 +15,14 @@ ghost use Rattle.units.specs.Rights.{rights};
 use rules::{Answer, KeyStage, Model, Refusal, Stage, Unit};
 
 // A unit's bytes, read: the unit, if they are well formed.
-#[derive(Drop)]
+#[derive(Clone, Copy)]
 pub enum Decoded {
     Unit(Unit),
     Malformed,
 }
 
 // A unit's model, if control byte and model byte fit together.
-#[derive(Drop)]
+#[derive(Clone, Copy)]
 enum ModelRead {
     Known(Model),
     Unknown,

@@ -1,4 +1,6 @@
 // Prints what the cipher makes of published and of long blocks, words low byte first. The expected output is in stdout.
+#![tactic(auto)]
+
 use libc::STDOUT_FILENO;
 use xxtea::Answer;
 

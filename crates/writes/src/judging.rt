@@ -17,7 +17,7 @@ use rules::{Answer, Model, Place, Refusal, Register, Session, Stage};
 use units::Decoded;
 
 // What a write comes to.
-#[derive(Drop)]
+#[derive(Clone, Copy)]
 pub enum Verdict {
     // The data goes to the address.
     Store,

@@ -1,6 +1,8 @@
 // Writes: document 01, "What a command does". A write is judged first, and touches nothing before its verdict; then the
 // verdict is carried out. The contract of `write` is an equation with the definitions of `rules`, `CarriedOut` in
 // Calls.antt, with XXTEA on blocks (`E`) as the cipher.
+#![tactic(auto)]
+
 mod carrying;
 mod judging;
 

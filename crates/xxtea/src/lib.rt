@@ -1,5 +1,7 @@
 // XXTEA over a lent slice of words, in place, and over a block of 16 bytes. The definitions that the contracts cite
 // are in specs/Xxtea.antt and specs/Block.antt.
+#![tactic(auto)]
+
 ghost use Rattle.std.specs.Prelude.{◌≡◌, ◌+◌, ◌*◌, ◌%◌, ◌^◌, ◌≤◌, length};
 ghost use Rattle.xxtea.specs.Xxtea.{taken, rounds_for, sum_in, mix, key_word, round, up, down, enciphered, deciphered, refusal, refused};
 ghost use Rattle.xxtea.specs.Block.{words_of, bytes_of, block_by};
@@ -7,7 +9,7 @@ ghost use Rattle.xxtea.specs.Block.{words_of, bytes_of, block_by};
 const D: u64 = 0x9E37_79B9;
 
 // Refused stands for the number 17 (`refusal`).
-#[derive(Drop)]
+#[derive(Clone, Copy)]
 pub enum Answer {
     Done,
     Refused,

@@ -1,4 +1,6 @@
 // XXTEA for C and Rust. Each function answers 0, or the refusal number 17 with no word changed.
+#![tactic(auto)]
+
 ghost use Rattle.std.specs.Prelude.{◌≡◌, [], ◌∷◌, length};
 ghost use Rattle.xxtea.specs.Xxtea.{enciphered, deciphered, refusal, refused};
 ghost use Rattle.rules.specs.Answers.{code_of};
