@@ -17,10 +17,10 @@ unfolding any
 loop-i-preserved c =
     let a = c.args in
     rw (c.equal-found.ensures, c.id_of.ensures)
-    (sought_next (any (has_id a.t3)) 0 a.n c.loop-i.i c.loop-i.found _ a.readers.now refl (omega arith) c.loop-i.invariant)
+    (sought_next (any (has_id a.id)) 0 a.n c.loop-i.i c.loop-i.found _ a.readers.now refl (omega arith) c.loop-i.invariant)
 
 pub returns : goal.returns
 unfolding most_hosts any
 returns c =
     let a = c.args in
-    sought_end (any (has_id a.t3)) 0 a.n c.loop-i.i c.loop-i.found a.readers.now refl (omega arith) c.loop-i.invariant
+    sought_end (any (has_id a.id)) 0 a.n c.loop-i.i c.loop-i.found a.readers.now refl (omega arith) c.loop-i.invariant

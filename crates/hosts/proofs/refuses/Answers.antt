@@ -65,4 +65,4 @@ returns c =
       c.count-n.ensures,
       c.readers-readers.ensures,
     )
-    (sym (refuses_is a.tag.now a.k a.t3 (hosts a.tag.now) c.requires.2))
+    (sym (refuses_is a.tag.now a.k a.id (hosts a.tag.now) c.requires.2))

@@ -14,5 +14,5 @@ returns c =
     let at = readers_at + row_at a.x in
     let named = bytes_of 2 (a.k + 1) in
     c.store16.ensures ∙ ap (put (at + 16) named) c.store_at.ensures
-    ∙ ap (λ n. put (at + n) named (put at a.t4 a.tag.now)) (sym c.requires.3)
-    ∙ sym (put-append at a.t4 named a.tag.now)
+    ∙ ap (λ n. put (at + n) named (put at a.id a.tag.now)) (sym c.requires.3)
+    ∙ sym (put-append at a.id named a.tag.now)
