@@ -17,5 +17,5 @@ returns c =
     let put = rw (← e) at c.put_read.ensures in
     let x =
     read_written (state a.tag.now a.session) a.address n _ _ a.output.now _ read.result m k
-    read.ensures.0.answered read.ensures.1 in
-    rw (← e) (record { bytes = put.0 ∙ x.bytes; count = put.1 ∙ x.count })
+    read.ensures.carried_out.answered read.ensures.output_after in
+    rw (← e) (record { bytes = put.output_after ∙ x.bytes; count = put.value ∙ x.count })

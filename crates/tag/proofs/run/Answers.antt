@@ -55,8 +55,8 @@ overflow_add-written c =
     subst (λ k. k ≤ length loop.output - loop.written) asked c.if-output-written.false in
     let within : c.loop-read.written + c.reply_to-replied.result.written ≤ length c.loop-read.output = let loop = c.loop-read in
     let reply = c.reply_to-replied in
-    written_within _ _ loop.output _ reply.last.1.1.1.1.1.1.1.0 _ _ loop.written _ reply.result
-    c.next_at-next.ensures loop.inv.0.fits room reply.ensures in
+    written_within _ _ loop.output _ reply.new.output _ _ loop.written _ reply.result
+    c.next_at-next.ensures loop.invariant.0.fits room reply.ensures in
     let w = within in
     let l = c.loop-read.invariant.2 in
     record { fits = omega (arith, c.well_formed.1.1.1) }
@@ -71,9 +71,9 @@ shape_of-output-in-Unreadable c =
     c.loop-read.output c.reply_to-replied.new.output)
     ≡ length c.args.output.now = let loop = c.loop-read in
     let reply = c.reply_to-replied in
-    same_len_mid loop.written (length loop.output - loop.written) loop.output reply.last.1.1.1.1.1.1.1.0
-    reply.kept.1.1.1.1.1.1.1.0
-    ∙ loop.inv.2 in
+    same_len_mid loop.written (length loop.output - loop.written) loop.output reply.new.output
+    reply.auto.output
+    ∙ loop.invariant.2 in
     size
 
 pub returns-in-Unreadable : goal.returns-in-Unreadable
@@ -103,9 +103,16 @@ loop-read-preserved c =
     let n = c.next_at-next in
     let reply = c.reply_to-replied in
     let g =
-    goes_on _ _ _ _ _ _ _ _ _ _ n.result _ loop.inv.0 c.loop-read-test.true n.ensures
+    goes_on _ _ _ _ _ _ _ _ _ _ n.result _ loop.invariant.0 c.loop-read-test.true n.ensures
     (opened c.in_default.in_default-own.keys2) room reply.ensures in
-    (rw long g, reply.kept.0 ∙ loop.inv.1, size at)
+    let size : length (put_mid c.loop-read.written (length c.loop-read.output - c.loop-read.written)
+    c.loop-read.output c.reply_to-replied.new.output)
+    ≡ length c.args.output.now = let loop = c.loop-read in
+    let reply = c.reply_to-replied in
+    same_len_mid loop.written (length loop.output - loop.written) loop.output reply.new.output
+    reply.auto.output
+    ∙ loop.invariant.2 in
+    (rw long g, reply.auto.tag ∙ loop.invariant.1, size)
 
 pub shape_of-tag : goal.shape_of-tag
 shape_of-tag c = c.loop-read.invariant.1
