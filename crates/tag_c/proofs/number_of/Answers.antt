@@ -4,4 +4,6 @@ use Rattle.std.proofs.Common.{sym, ap, ◌∙◌}
 use Rattle.tag_c.proofs.number_of.Goals as goal
 
 pub returns-in-Refused : goal.returns-in-Refused
-returns-in-Refused c = c.number_of.ensures ∙ sym (ap (λ a. code_of (refusal_of a)) c.in-Refused.is)
+returns-in-Refused c =
+    let told = ap (λ a. code_of (refusal_of a)) c.in-Refused.is in
+    cc
