@@ -1,4 +1,3 @@
 -- The laws of `replay` that belong to no one function.
-pub mod Laws
 pub mod TextLaws
 pub mod WholeLaws

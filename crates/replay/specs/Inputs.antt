@@ -1,8 +1,11 @@
 -- What the contracts of `replay` cite: how many bytes of a buffer an input takes. Assumes nothing.
-use Rattle.std.specs.Prelude.{ℕ, ◌≤◌, ◌<◌, List, length}
-use Rattle.io.specs.Counts.{IsPrefixLen}
+use Rattle.std.specs.Prelude.{ℕ, ◌≡◌, ◌≤◌, ◌<◌, List, length, take}
 use Rattle.replay.specs.declared.input.Input.{Input}
 use Rattle.replay.specs.declared.input.Input.TheVariants.{Whole, Failed}
+
+-- the first n of some bytes are there, and are n
+abbrev pub IsPrefixLen : ℕ → List ℕ → Type 0
+IsPrefixLen n xs = (n ≤ length xs) × (n ≡ length (take n xs))
 
 -- the bytes of a whole input stand at the start of the buffer
 abbrev pub Held : Input → List ℕ → Type 0

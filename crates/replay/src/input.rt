@@ -1,8 +1,13 @@
 // The arguments, and the two files that are read whole. What is wrong with one is said here.
+ghost use Rattle.std.specs.Prelude.{IfOk};
 ghost use Rattle.replay.specs.Inputs.{AtMost, Ended, Held};
+ghost use Rattle.replay.specs.declared.input.Input.TheVariants.{Whole};
 
-use crate::words::{cannot, no_name, unreadable, wrong};
-use libc::STDIN_FILENO;
+use crate::words::{cannot, no_name, no_text, unreadable, wrong};
+use std::env::FillError;
+use std::io::Read;
+use std::rt::{Env, Files, Runtime};
+use std::{fs, io, str};
 
 // What came of reading: so many bytes at the start of the buffer, or nothing, and then it has been said why.
 #[derive(Clone, Copy)]
@@ -11,138 +16,188 @@ pub enum Input {
     Failed,
 }
 
-// The argument of that number, the name of `what`.
-pub fn argument(number: usize, what: &[u8], buffer: &mut [u8]) -> Input
-    ensures { Held result buffer.new }
-{
-    let n = os::arg(number, buffer);
-    if os::errno() != 0 {
-        cannot(b"take the name of", what);
-        return Input::Failed;
-    }
-    if n == 0 {
-        no_name(what);
-        return Input::Failed;
-    }
-    Input::Whole(n)
+// The system's numbers of what it says of a name that is too long, or of one that is not there.
+const NAME_TOO_LONG: i32 = 36;
+
+const INVALID_ARGUMENT: i32 = 22;
+
+fn as_system_error(error: FillError) -> io::Error {
+    io::Error::from_raw_os_error(match error {
+        FillError::TooLong => NAME_TOO_LONG,
+        FillError::NotPresent => INVALID_ARGUMENT,
+    })
 }
 
-// Reads to the end of the input or of the buffer. io::read_full would take an error for the end.
-fn read_all(fd: i32, buffer: &mut [u8]) -> Input
+// Whether there is an argument of that number.
+pub fn is_given(rt: &impl Env, number: usize) -> bool {
+    !matches!(rt.arg(number, &mut []), Err(FillError::NotPresent))
+}
+
+// The argument of that number, the name of `what`.
+pub fn argument(
+    rt: &(impl Env + Eprint + Alloc),
+    number: usize,
+    what: &str,
+    buffer: &mut [u8],
+) -> Input
     ensures { Held result buffer.new }
+{
+    match rt.arg(number, buffer) {
+        Ok(0) => {
+            no_name(rt, what);
+            Input::Failed
+        }
+        Ok(n) => Input::Whole(n),
+        Err(error) => {
+            cannot(rt, "take the name of", what, &as_system_error(error));
+            Input::Failed
+        }
+    }
+}
+
+// The name of `what` as text, by which std opens files.
+pub(crate) fn text_of<'a>(rt: &impl Eprint, what: &str, name: &'a [u8]) -> Option<&'a str> {
+    match str::from_utf8(name) {
+        Ok(text) => Some(text),
+        Err(_) => {
+            no_text(rt, what);
+            None
+        }
+    }
+}
+
+// Reads to the end of the input or of the buffer.
+fn read_all(input: &mut impl Read, buffer: &mut [u8]) -> io::Result<usize>
+    ensures { IfOk result (λ n. Held (Whole n) buffer.new) }
 {
     let mut done = 0;
     while done < buffer.len() {
-        let got = libc::read(fd, &mut buffer[done..]);
-        if got < 0 {
-            return Input::Failed;
-        }
-        let more = io::count(got, &buffer[done..]);
+        let more = input.read(&mut buffer[done..])?;
         if more == 0 {
             break;
         }
         done += more;
     }
-    Input::Whole(done)
+    Ok(done)
 }
 
-fn is_dash(path: &[u8]) -> bool {
-    if path.len() != 1 {
-        return false;
+fn is_dash(path: &str) -> bool {
+    path == "-"
+}
+
+// What an input is read from.
+#[derive(Drop)]
+enum Source<R: Files + io::Input> {
+    Standard(R::Reader),
+    Named(R::File),
+}
+
+impl<R: Files + io::Input> Read for Source<R> {
+    fn read(&mut self, buffer: &mut [u8]) -> io::Result<usize> {
+        match self {
+            Source::Standard(input) => input.read(buffer),
+            Source::Named(file) => file.read(buffer),
+        }
     }
-    path[0] == b'-'
 }
 
 // Where `-` may stand for it, that is standard input.
-fn open_input(path: &[u8], dash: bool) -> i32 {
-    if dash & is_dash(path) {
-        return STDIN_FILENO;
+fn open_input<R: Files + io::Input>(rt: &R, path: &str, dash: bool) -> io::Result<Source<R>> {
+    if dash && is_dash(path) {
+        return Ok(Source::Standard(rt.reader()));
     }
-    os::open_read(path)
+    Ok(Source::Named(fs::open(rt, path)?))
 }
 
-fn read_path(what: &[u8], path: &[u8], dash: bool, buffer: &mut [u8]) -> Input
+fn read_path(rt: &impl Runtime, what: &str, path: &str, dash: bool, buffer: &mut [u8]) -> Input
     ensures { Held result buffer.new }
 {
-    let fd = open_input(path, dash);
-    if fd < 0 {
-        unreadable(what, path);
-        return Input::Failed;
+    let read = match open_input(rt, path, dash) {
+        Ok(mut source) => read_all(&mut source, buffer),
+        Err(error) => Err(error),
+    };
+    match read {
+        Ok(n) => Input::Whole(n),
+        Err(error) => {
+            unreadable(rt, what, path, &error);
+            Input::Failed
+        }
     }
-    let input = read_all(fd, buffer);
-    if let Input::Failed = input {
-        unreadable(what, path);
-    }
-    libc::close(fd);
-    input
 }
 
 // The buffer has one byte more than the input may have, so that a longer one is seen; `excess` says so.
 fn read_whole(
-    what: &[u8],
-    path: &[u8],
+    rt: &impl Runtime,
+    what: &str,
+    path: &str,
     dash: bool,
     least: usize,
-    excess: &[u8],
+    excess: &str,
     buffer: &mut [u8],
 ) -> Input
     ensures { Ended result buffer.new }
 {
-    let Input::Whole(size) = read_path(what, path, dash, buffer) else {
+    let Input::Whole(size) = read_path(rt, what, path, dash, buffer) else {
         return Input::Failed;
     };
     if size < least {
-        wrong(what, path, b"it is empty");
+        wrong(rt, what, path, "it is empty");
         return Input::Failed;
     }
     if size == buffer.len() {
-        wrong(what, path, excess);
+        wrong(rt, what, path, excess);
         return Input::Failed;
     }
     Input::Whole(size)
 }
 
 fn read_input(
+    rt: &impl Runtime,
     number: usize,
-    what: &[u8],
+    what: &str,
     dash: bool,
     least: usize,
-    excess: &[u8],
+    excess: &str,
     buffer: &mut [u8],
 ) -> Input
     ensures { Ended result buffer.new }
 {
-    let mut path = io::buffer();
-    let Input::Whole(n) = argument(number, what, &mut path) else {
+    let mut name = [0u8; 4096];
+    let Input::Whole(n) = argument(rt, number, what, &mut name) else {
         return Input::Failed;
     };
-    read_whole(what, &path[..n], dash, least, excess, buffer)
+    let Some(path) = text_of(rt, what, &name[..n]) else {
+        return Input::Failed;
+    };
+    read_whole(rt, what, path, dash, least, excess, buffer)
 }
 
 // The image that the first argument names.
-pub fn read_image(image: &mut [u8; 65537]) -> Input
+pub fn read_image(rt: &impl Runtime, image: &mut [u8; 65537]) -> Input
     ensures { Held result image.new × AtMost 65536 result }
 {
     read_input(
+        rt,
         1,
-        b"the image",
+        "the image",
         false,
         1,
-        b"it has more than 65536 bytes",
+        "it has more than 65536 bytes",
         image,
     )
 }
 
 // The log that the second argument names. It may be empty.
-pub fn read_log(log: &mut [u8; 1048577]) -> Input
+pub fn read_log(rt: &impl Runtime, log: &mut [u8; 1048577]) -> Input
     ensures { Held result log.new × AtMost 1048576 result }
 {
     read_input(
+        rt,
         2,
-        b"the log",
+        "the log",
         true,
         0,
-        b"it has more than 1048576 bytes",
+        "it has more than 1048576 bytes",
         log,
     )
 }

@@ -5,7 +5,6 @@ ghost use Rattle.replay.specs.Whole.{PartRun, WholeRun, is_full};
 
 use crate::part::run_as_text;
 use crate::words::{cannot, say, say_number};
-use libc::STDOUT_FILENO;
 use rules::{Run, Session, Stop};
 
 // What a run came to, and whether its replies were printed; where they were not, that has been said.
@@ -21,23 +20,30 @@ fn text_buffer() -> [u8; 12288]
     [0; 12288]
 }
 
-fn print(text: &[u8]) -> bool {
-    let printed = io::write_all(STDOUT_FILENO, text);
-    if !printed {
-        cannot(b"write", b"the replies");
+fn print(rt: &(impl Print + Eprint + Alloc), text: &[u8]) -> bool {
+    match rt.write_all(text) {
+        Ok(()) => true,
+        Err(error) => {
+            cannot(rt, "write", "the replies", &error);
+            false
+        }
     }
-    printed
 }
 
 // A part of the run, whose text is printed.
-fn run_part(image: &mut [u8], session: Session, log: &[u8]) -> Replayed
+fn run_part(
+    rt: &(impl Print + Eprint + Alloc),
+    image: &mut [u8],
+    session: Session,
+    log: &[u8],
+) -> Replayed
     ensures { PartRun (state image.old session) log.now image.new result.run }
 {
     let mut text = text_buffer();
     let part = run_as_text(image, session, log, &mut text);
     let n = part.characters;
     let run = part.run;
-    let printed = print(&text[..n]);
+    let printed = print(rt, &text[..n]);
     Replayed { run, printed }
 }
 
@@ -53,7 +59,7 @@ fn is_full(stop: Stop) -> bool
 
 // From power-up to the end of the log, or to a 15. A buffer that is full is printed, and the run goes on. The sum of the
 // bytes written has a bound only where the log's length has one.
-pub fn run_log(image: &mut [u8], log: &[u8]) -> Replayed
+pub fn run_log(rt: &(impl Print + Eprint + Alloc), image: &mut [u8], log: &[u8]) -> Replayed
     requires { length log.now ≤ 1048576 }
     ensures { WholeRun (state image.old powered_up) log.now image.new result }
 {
@@ -61,7 +67,7 @@ pub fn run_log(image: &mut [u8], log: &[u8]) -> Replayed
     let mut read = 0;
     let mut written = 0;
     loop {
-        let part = run_part(image, session, &log[read..]);
+        let part = run_part(rt, image, session, &log[read..]);
         let run = part.run;
         let stop = run.stop;
         let printed = part.printed;
@@ -82,24 +88,24 @@ pub fn run_log(image: &mut [u8], log: &[u8]) -> Replayed
 }
 
 // One line on what stopped the run.
-pub(crate) fn report(run: Run) {
+pub(crate) fn report(rt: &impl Eprint, run: Run) {
     let stop = run.stop;
     match stop {
-        Stop::End => say(b"the run stopped at the end of the log"),
+        Stop::End => say(rt, "the run stopped at the end of the log"),
         Stop::BadCommand => {
-            say(b"the run stopped at byte ");
-            say_number(run.read);
-            say(b" of the log, where no command can be read (15)");
+            say(rt, "the run stopped at byte ");
+            say_number(rt, run.read);
+            say(rt, " of the log, where no command can be read (15)");
         }
         Stop::OutputFull => {
-            say(b"the run stopped at byte ");
-            say_number(run.read);
-            say(b" of the log, with no room for the next reply (16)");
+            say(rt, "the run stopped at byte ");
+            say_number(rt, run.read);
+            say(rt, " of the log, with no room for the next reply (16)");
         }
     }
-    say(b"; bytes of the log read: ");
-    say_number(run.read);
-    say(b"; bytes of replies written: ");
-    say_number(run.written);
-    say(b"\n");
+    say(rt, "; bytes of the log read: ");
+    say_number(rt, run.read);
+    say(rt, "; bytes of replies written: ");
+    say_number(rt, run.written);
+    say(rt, "\n");
 }
