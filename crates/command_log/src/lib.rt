@@ -80,6 +80,7 @@ pub fn next_at(log: &[u8], at: usize) -> Next
 }
 
 // The room that its reply must find, wherever it stands in a log.
+#[tactic(auto, unfolding(rules::specs::Log::command_of, rules::specs::Log::room_for))]
 pub fn room_of(next: Next) -> usize
     ensures { (log : List ℕ) (at : ℕ) → result ≡ room_asked (command_at log at next) }
 {

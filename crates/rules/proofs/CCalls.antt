@@ -20,7 +20,7 @@ use Rattle.rules.specs.declared.Place.TheVariants.{Header, Hidden, RegisterOf, P
 use Rattle.rules.specs.declared.Stop.{Stop}
 use Rattle.rules.specs.declared.Stop.TheVariants.{End, BadCommand, OutputFull}
 use Rattle.rules.specs.Bytes.{byte, part, number, number_from, bytes_of}
-use Rattle.rules.specs.State.{Cipher, State, state, pin_index, powered_up, with_read, with_write, with_edit, with_name, with_id, with_pa}
+use Rattle.rules.specs.State.{Cipher, State, powered_up, with_read, with_write, with_edit, with_name, with_id, with_pa}
 use Rattle.rules.specs.Answers.{refusal_of, stop_number, code_of}
 use Rattle.rules.specs.Refusals.{Checks, ◌when◌else◌, lowest, register_checks, block_checks, response_checks, write_checks}
 use Rattle.rules.specs.Effects.{register_session, write_session}

@@ -1,6 +1,6 @@
 -- Where commands store: at the counter, the flag, a PIN but the first, the written bytes, a unit's own, or, by an
 -- insertion, the host list and segments of model 4. So a sound tag stays sound.
-use Prim.Native.Nat.{ℕ, suc, ◌+◌, ◌-◌, ◌*◌, ◌≤◌, ◌<◌}
+use Prim.Native.Nat.{ℕ, suc, ◌+◌, ◌-◌, ◌≤◌, ◌<◌}
 use mathlib.Core.Path.{◌≡◌, refl, sym, ap, subst, ◌∙◌}
 use mathlib.Core.Logic.{◌≢◌}
 use mathlib.Core.Bool.{Bool, true, false, cond}

@@ -2,7 +2,7 @@
 use Prim.Native.Nat.{ℕ, zero, suc, ◌+◌, ◌*◌, ◌/◌, ◌%◌, ◌≤◌, ◌<◌}
 use mathlib.Core.Path.{◌≡◌, refl, sym, ap, subst, ◌∙◌}
 use mathlib.Core.Logic.{◌≢◌}
-use mathlib.Core.Bool.{Bool, true, false, ◌&&◌, not, cond, and_assoc, and_true as and_right, and_false}
+use mathlib.Core.Bool.{Bool, true, false, ◌&&◌, not, cond, and_assoc, and-true as and_right, and-false}
 use mathlib.Core.List.{List, [], ◌∷◌}
 use native.Mathlib.Omega.{arith}
 use native.Mathlib.Nat.{mod-lt}
@@ -145,7 +145,7 @@ unknown_is false n e = refl
 pub decoded_unknown : (u : List ℕ) → model_read (model_formed u) (unit_of u).model ≡ Unknown → decoded u ≡ Malformed
 unfolding decoded
 decoded_unknown u f =
-    rw (well_formed_is u, unknown_is (model_formed u) (unit_of u).model f, and_false (other_tests u))
+    rw (well_formed_is u, unknown_is (model_formed u) (unit_of u).model f, and-false (other_tests u))
 
 -- ---- what a caller learns of a decoded unit
 

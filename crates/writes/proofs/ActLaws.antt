@@ -15,19 +15,19 @@ use Rattle.rules.specs.declared.Stage.TheVariants.{Zero, One, Two}
 use Rattle.rules.specs.declared.Model.{Model}
 use Rattle.rules.specs.declared.Model.TheVariants.{Default, WriteOnce, Counter, Receiver, SharedKey}
 use Rattle.rules.specs.declared.Register.{Register}
-use Rattle.rules.specs.declared.Register.TheVariants.{Read, Write, Edit, Name, Id, Commit, Pa}
+use Rattle.rules.specs.declared.Register.TheVariants.{Name, Commit}
 use Rattle.rules.specs.declared.Place.{Place}
 use Rattle.rules.specs.declared.Place.TheVariants.{Header, Hidden, RegisterOf, Pins, Readers, UnitOf, Spare, Segment, Public}
 use Rattle.rules.specs.declared.Refusal.{Refusal}
 use Rattle.rules.specs.declared.Refusal.TheVariants as refusal
 use Rattle.rules.specs.declared.Answer.TheVariants.{Done}
-use Rattle.rules.specs.Bytes.{byte, part}
+use Rattle.rules.specs.Bytes.{part}
 use Rattle.rules.specs.Map.{sound, place_of, unit_at}
-use Rattle.rules.specs.Units.{unit_bytes, unit_of, well_formed}
+use Rattle.rules.specs.Units.{unit_bytes}
 use Rattle.rules.specs.State.{State, state, pin_index, owner_index}
 use Rattle.rules.specs.Answers.{refusal_of, number_of}
-use Rattle.rules.specs.Refusals.{lowest, write_checks, segment_write_checks, register_checks, block_checks, name_checks, commit_checks}
-use Rattle.rules.specs.Effects.{Store, ◌↤◌, apply, stored, read_only, write_move, register_stores, register_session, write_stores, write_session, refusal_stores}
+use Rattle.rules.specs.Refusals.{lowest, write_checks, register_checks, block_checks, name_checks, commit_checks}
+use Rattle.rules.specs.Effects.{Store, ◌↤◌, apply, stored, write_move, register_stores, register_session, write_stores, write_session, refusal_stores}
 use Rattle.rules.specs.Command.{write, refusal as refused-by, checks, after, after_by, new_session, session_in}
 use Rattle.rules.proofs.Tests.{some_none, same_some, passes}
 use Rattle.rules.proofs.Places.{the_map}

@@ -1,0 +1,25 @@
+-- `command_log::put_read` meets its contract: the code of a granted read, or the refusal. Assumes nothing.
+use Rattle.command_log.proofs.Laws.{code_of}
+use Rattle.octets.proofs.Laws.{set_put}
+use Rattle.rules.specs.Bytes.{put}
+use Rattle.rules.specs.Log.{encoded}
+use Rattle.std.proofs.Common.{◌+◌, ap, ◌∙◌, [], ◌∷◌, arith}
+use Rattle.command_log.proofs.put_read.Goals as goal
+
+pub overflow_add-output : goal.overflow_add-output
+overflow_add-output c = let d = (code_of _ c.requires.1).1 in omega arith
+
+pub returns-in-Done : goal.returns-in-Done
+returns-in-Done c =
+    let t = c.args.output.now in
+    let e = c.in-Done.is in
+    record {
+      output_after = set_put 0 _ t ∙ ap (λ k. put 0 (k ∷ []) t) (code_of _ c.requires.1).0 ∙ rw e;
+      value = ap (λ n. 1 + n) c.count_of.ensures.0 ∙ rw e;
+    }
+
+pub returns : goal.returns
+unfolding encoded
+returns c =
+    let e = c.in_default.is in
+    record { output_after = c.put_answer.ensures.output_after ∙ rw e; value = c.put_answer.ensures.value ∙ rw e }
