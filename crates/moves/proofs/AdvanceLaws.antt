@@ -1,29 +1,28 @@
 -- Laws on advances that the judges and the command above them cite. Assumes nothing.
-use Prim.Native.Nat.{ℕ, ◌+◌, ◌-◌, ◌<◌}
+use Prim.Native.Nat.{ℕ, ◌+◌, ◌-◌, ◌<◌, ◌≤◌}
 use mathlib.Core.Path.{◌≡◌, refl, sym, ap, ◌∙◌}
+use mathlib.Core.Logic.{◌≢◌}
 use mathlib.Core.Bool.{Bool, true, false, ◌&&◌, not}
 use mathlib.Core.List.{List}
 use mathlib.Core.Option.{none, some}
 use native.Mathlib.Omega.{arith}
-use lib.ListN.{length}
-use lib.Dec.{eqb, ltb}
-use borrow.Author.Tests.{not-false, lt-ltb}
+use lib.Dec.{eqb}
+use borrow.Author.Tests.{le-ltb, lt-ltb}
 use borrow.Rule.Slice.PartMut.{put_mid}
 use Rattle.rules.specs.declared.Stage.{Stage}
-use Rattle.rules.specs.declared.Stage.TheVariants.{Zero, One, Two}
 use Rattle.rules.specs.declared.Model.{Model}
 use Rattle.rules.specs.declared.Model.TheVariants.{Default, WriteOnce, Counter, Receiver, SharedKey}
 use Rattle.rules.specs.declared.Unit.{Unit}
 use Rattle.rules.specs.declared.Refusal.{Refusal}
-use Rattle.rules.specs.Bytes.{byte, put, same}
+use Rattle.rules.specs.Bytes.{put, same}
 use Rattle.rules.specs.Map.{sound, segments, unit_at}
-use Rattle.rules.specs.Units.{unit_of, unit_bytes, well_formed, name_of}
+use Rattle.rules.specs.Units.{unit_of, unit_bytes, name_of}
 use Rattle.rules.specs.State.{Cipher, State, state}
 use Rattle.rules.specs.Answers.{number_of, refusal_of}
-use Rattle.rules.specs.Refusals.{Checks, ◌when◌else◌, granted, lowest, advance_checks, can_advance, is_receiver}
+use Rattle.rules.specs.Refusals.{Checks, ◌when◌else◌, granted, lowest, advance_checks, can_advance}
 use Rattle.rules.specs.Effects.{apply, advance_stores, advanced, advance_move}
 use Rattle.rules.specs.Command.{advance, checks, refusal, after, after_by, stores, new_session}
-use Rattle.rules.proofs.Tests.{true_false, passes, gives, leaves}
+use Rattle.rules.proofs.Tests.{gives, leaves}
 use Rattle.rules.proofs.Refused.{not_11, refused_stays}
 use Rattle.layout.proofs.Laws.{unit_inside, unit_back}
 use Rattle.units.specs.declared.Decoded.TheVariants.{Unit as Whole}
@@ -50,13 +49,13 @@ pub move_judged : (cs ds : Checks) (m n : Model) (v : Move) → lowest ds ≡ lo
 move_judged cs ds m n v e f j =
     record { number = j.number ∙ sym e; granted = λ g q. f ∙ j.granted g q }
 
-pub no_advance : (m : Model) → is_receiver m ≡ false → can_advance m ≡ false
-unfolding is_receiver can_advance
-no_advance Default e = refl
-no_advance WriteOnce e = refl
-no_advance Counter e = refl
-no_advance (Receiver g) e = true_false e
-no_advance (SharedKey g) e = refl
+pub no_advance : (m : Model) → ((g : Stage) → m ≢ Receiver g) → can_advance m ≡ false
+unfolding can_advance
+no_advance Default h = refl
+no_advance WriteOnce h = refl
+no_advance Counter h = refl
+no_advance (Receiver g) h = absurd (h g refl)
+no_advance (SharedKey g) h = refl
 
 pub advance_by : (i : ℕ) (name u : List ℕ) (x : Unit) (named : Bool) → decoded u ≡ Whole x
     → named ≡ same name (name_of u)
@@ -70,10 +69,10 @@ advance_by i name u x named e f =
 -- ---- advances
 
 module _ (E : Cipher) (s : State) (k : ℕ) where
-  pub advance_outside : (m : ℕ) → sound s.tag ≡ true → m ≡ segments s.tag → not (ltb k m) ≡ true
+  pub advance_outside : (m : ℕ) → sound s.tag ≡ true → m ≡ segments s.tag → m ≤ k
       → refusal E s (advance k) ≡ some 3
   unfolding refusal checks
-  advance_outside m w e h = leaves 1 _ _ (ap not w) ∙ gives 3 _ _ (rw (← e) h)
+  advance_outside m w e h = leaves 1 _ _ (ap not w) ∙ gives 3 _ _ (rw (← e) (ap not (le-ltb k m h)))
 
   advance_placed : sound s.tag ≡ true → k < segments s.tag
       → refusal E s (advance k) ≡ lowest (advance_checks s.session.write s.session.name (unit_bytes s.tag k))

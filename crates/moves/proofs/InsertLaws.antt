@@ -1,11 +1,11 @@
 -- Laws on insertions that the judge and the command cite. Assumes nothing.
-use Prim.Native.Nat.{ℕ, ◌<◌}
+use Prim.Native.Nat.{ℕ, ◌<◌, ◌≤◌}
 use mathlib.Core.Path.{◌≡◌, refl, sym, ap, ◌∙◌}
 use mathlib.Core.Bool.{Bool, true, false, ◌&&◌, not}
 use mathlib.Core.List.{List}
 use mathlib.Core.Option.{none, some}
-use lib.Dec.{eqb, ltb}
-use borrow.Author.Tests.{lt-ltb}
+use lib.Dec.{eqb}
+use borrow.Author.Tests.{le-ltb, lt-ltb}
 use Rattle.rules.specs.declared.Unit.{Unit}
 use Rattle.rules.specs.Bytes.{same}
 use Rattle.rules.specs.Map.{sound, segments}
@@ -41,10 +41,10 @@ insert_by i name t k id u x named e d f =
 -- ---- the command
 
 module _ (E : Cipher) (s : State) (k : ℕ) (id : List ℕ) where
-  pub insert_outside : (m : ℕ) → sound s.tag ≡ true → m ≡ segments s.tag → not (ltb k m) ≡ true
+  pub insert_outside : (m : ℕ) → sound s.tag ≡ true → m ≡ segments s.tag → m ≤ k
       → refusal E s (insert k id) ≡ some 3
   unfolding refusal checks
-  insert_outside m w e h = leaves 1 _ _ (ap not w) ∙ gives 3 _ _ (rw (← e) h)
+  insert_outside m w e h = leaves 1 _ _ (ap not w) ∙ gives 3 _ _ (rw (← e) (ap not (le-ltb k m h)))
 
   pub insert_placed : sound s.tag ≡ true → k < segments s.tag
       → refusal E s (insert k id) ≡ lowest (insert_checks s.session.write s.session.name s.tag k id)

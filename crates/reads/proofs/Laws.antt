@@ -1,17 +1,14 @@
 -- Laws on reads that the judges and the command above them cite. Assumes nothing.
 use Prim.Native.Nat.{ℕ, ◌+◌, ◌-◌, ◌%◌, ◌≤◌}
 use mathlib.Core.Path.{◌≡◌, refl, sym, ap, ◌∙◌}
-use mathlib.Core.Logic.{◌≢◌}
+use mathlib.Core.Logic.{◌≢◌, ◌⊎◌, inl, inr}
 use mathlib.Core.Bool.{Bool, true, false, ◌&&◌, ◌||◌, not}
-use mathlib.Core.List.{List, [], ◌∷◌}
+use mathlib.Core.List.{List}
 use mathlib.Core.Option.{Option, none, some}
 use native.Mathlib.Omega.{arith}
 use lib.ListN.{length}
 use lib.Dec.{eqb, ltb}
 use borrow.Author.Tests.{eqb-false}
-use types.Run.{OneOf, miss}
-use denote.Enum.Declared.{tag_of}
-use Rattle.rules.specs.contracts.Place as the-place
 use Rattle.rules.specs.declared.Unit.{Unit}
 use Rattle.rules.specs.declared.Session.{Session}
 use Rattle.rules.specs.declared.Place.{Place}
@@ -56,31 +53,25 @@ unfolding unit_read_checks
 unit_read_by u o x e = formed u x _ e ∙ rw (decoded_whole u x e).1
 
 -- the variants of `Place` that any read may have, and those that no read may have
-pub readable : (s : State) (p : Place) (a n : ℕ) → OneOf (0 ∷ 4 ∷ 8 ∷ []) (tag_of the-place.the_type p)
+pub readable : (s : State) (p : Place) (a n : ℕ) → (p ≡ Header) ⊎ ((p ≡ Readers) ⊎ ((k : ℕ) × (p ≡ Public k)))
     → lowest (read_checks s p a n) ≡ none
 unfolding read_checks
-readable s Header a n o = none_applies
-readable s Hidden a n o = absurd (miss (0 ∷ 4 ∷ 8 ∷ []) 1 tt o)
-readable s (RegisterOf r) a n o = absurd (miss (0 ∷ 4 ∷ 8 ∷ []) 2 tt o)
-readable s Pins a n o = absurd (miss (0 ∷ 4 ∷ 8 ∷ []) 3 tt o)
-readable s Readers a n o = none_applies
-readable s (UnitOf k) a n o = absurd (miss (0 ∷ 4 ∷ 8 ∷ []) 5 tt o)
-readable s Spare a n o = absurd (miss (0 ∷ 4 ∷ 8 ∷ []) 6 tt o)
-readable s (Segment k) a n o = absurd (miss (0 ∷ 4 ∷ 8 ∷ []) 7 tt o)
-readable s (Public k) a n o = none_applies
+readable s p a n (inl e) = rw e none_applies
+readable s p a n (inr (inl e)) = rw e none_applies
+readable s p a n (inr (inr (k, e))) = rw e none_applies
 
-pub unreadable : (s : State) (p : Place) (a n : ℕ) → OneOf (1 ∷ 2 ∷ 3 ∷ 6 ∷ []) (tag_of the-place.the_type p)
-    → lowest (read_checks s p a n) ≡ some 4
+pub unreadable : (s : State) (p : Place) (a n : ℕ) → p ≢ Header → p ≢ Readers → ((k : ℕ) → p ≢ UnitOf k)
+    → ((k : ℕ) → p ≢ Segment k) → ((k : ℕ) → p ≢ Public k) → lowest (read_checks s p a n) ≡ some 4
 unfolding read_checks
-unreadable s Header a n o = absurd (miss (1 ∷ 2 ∷ 3 ∷ 6 ∷ []) 0 tt o)
-unreadable s Hidden a n o = gives 4 true granted refl
-unreadable s (RegisterOf r) a n o = gives 4 true granted refl
-unreadable s Pins a n o = gives 4 true granted refl
-unreadable s Readers a n o = absurd (miss (1 ∷ 2 ∷ 3 ∷ 6 ∷ []) 4 tt o)
-unreadable s (UnitOf k) a n o = absurd (miss (1 ∷ 2 ∷ 3 ∷ 6 ∷ []) 5 tt o)
-unreadable s Spare a n o = gives 4 true granted refl
-unreadable s (Segment k) a n o = absurd (miss (1 ∷ 2 ∷ 3 ∷ 6 ∷ []) 7 tt o)
-unreadable s (Public k) a n o = absurd (miss (1 ∷ 2 ∷ 3 ∷ 6 ∷ []) 8 tt o)
+unreadable s Header a n h r u g b = absurd (h refl)
+unreadable s Hidden a n h r u g b = gives 4 true granted refl
+unreadable s (RegisterOf i) a n h r u g b = gives 4 true granted refl
+unreadable s Pins a n h r u g b = gives 4 true granted refl
+unreadable s Readers a n h r u g b = absurd (r refl)
+unreadable s (UnitOf k) a n h r u g b = absurd (u k refl)
+unreadable s Spare a n h r u g b = gives 4 true granted refl
+unreadable s (Segment k) a n h r u g b = absurd (g k refl)
+unreadable s (Public k) a n h r u g b = absurd (b k refl)
 
 -- the unit that is read, and the unit of the segment that is read
 pub unit_read_in : (t : List ℕ) (v : Session) (p : Place) (k a n : ℕ) (u : List ℕ) → u ≡ unit_bytes t k → p ≡ UnitOf k

@@ -20,7 +20,7 @@ use Rattle.rules.specs.Bytes.{byte, put}
 use Rattle.rules.specs.Map.{sound}
 use Rattle.rules.specs.Answers.{stop_number}
 use Rattle.rules.specs.State.{State, state}
-use Rattle.rules.specs.Command.{Command, read, refused, reply, after}
+use Rattle.rules.specs.Command.{Command, refused, reply, after}
 use Rattle.rules.specs.Log.{Ran, first, encoded, room_for, stopped, onward, run_log}
 use Rattle.rules.specs.Runs.{returned, Result, result, result_of, run_over}
 use Rattle.rules.proofs.BytesLaws.{length-put, put-append, put-none}

@@ -10,7 +10,7 @@ ghost use Rattle.rules.specs.Command.{reply, read_into};
 ghost use Rattle.rules.specs.Command as command;
 ghost use Rattle.rules.specs.Calls.{CarriedOut};
 ghost use Rattle.rules.specs.Log.{count_of};
-ghost use Rattle.rules.specs.Runs.{returned, result, run_over};
+ghost use Rattle.rules.specs.Runs.{returned, result as left_by, run_over};
 ghost use Rattle.xxtea.specs.Block.{E};
 ghost use Rattle.command_log.specs.Next.{ComesNext, command_at};
 ghost use Rattle.tag.specs.Replies.{Answered, Room, Written, Replies, read_counted};
@@ -20,7 +20,7 @@ use rules::{Answer, Outcome, Refusal, Session, Stop};
 
 // The session after power-up.
 pub fn power_up() -> Session
-    ensures* { λ r. ⌜ r ≡ powered_up ⌝ }
+    ensures { result ≡ powered_up }
 {
     Session {
         read: 0,
@@ -39,8 +39,8 @@ pub fn read(
     count: usize,
     output: &mut [u8],
 ) -> Outcome
-    ensures* fact { λ r. ⌜ CarriedOut E (state tag.now session) (command.read address count (length output.old)) tag.now r ⌝ }
-    ensures* output_after { λ _. ⌜ output.new ≡ read_into E (state tag.now session) address count output.old ⌝ }
+    ensures carried_out { CarriedOut E (state tag.now session) (command.read address count (length output.old)) tag.now result }
+    ensures output_after { output.new ≡ read_into E (state tag.now session) address count output.old }
 {
     let is_sound = layout::sound(tag);
     let answer = reads::read(tag, is_sound, session, address, count, output);
@@ -48,14 +48,14 @@ pub fn read(
 }
 
 pub fn write(tag: &mut [u8], session: Session, address: usize, data: &[u8]) -> Outcome
-    ensures* { λ r. ⌜ CarriedOut E (state tag.old session) (command.write address «data».now) tag.new r ⌝ }
+    ensures { CarriedOut E (state tag.old session) (command.write address «data».now) tag.new result }
 {
     let is_sound = layout::sound(tag);
     writes::write(tag, is_sound, session, address, data)
 }
 
 pub fn advance(tag: &mut [u8], session: Session, segment: usize) -> Outcome
-    ensures* { λ r. ⌜ CarriedOut E (state tag.old session) (command.advance segment) tag.new r ⌝ }
+    ensures { CarriedOut E (state tag.old session) (command.advance segment) tag.new result }
 {
     let is_sound = layout::sound(tag);
     let answer = moves::advance(tag, is_sound, session, segment);
@@ -64,7 +64,7 @@ pub fn advance(tag: &mut [u8], session: Session, segment: usize) -> Outcome
 
 // The insertion of a host with this id, whose segment this is: document 02, L4.
 pub fn insert(tag: &mut [u8], session: Session, segment: usize, id: [u8; 16]) -> Outcome
-    ensures* { λ r. ⌜ CarriedOut E (state tag.old session) (command.insert segment id) tag.new r ⌝ }
+    ensures { CarriedOut E (state tag.old session) (command.insert segment id) tag.new result }
 {
     let is_sound = layout::sound(tag);
     let answer = moves::insert(tag, is_sound, session, segment, id);
@@ -83,7 +83,7 @@ fn reply_read(
     output: &mut [u8],
 ) -> usize
     requires { (is_sound ≡ sound tag.now) × (1 ≤ count_of digit) × (1 + count_of digit ≤ length output.old) }
-    ensures* { λ r. ⌜ Written (reply E (state tag.now session) (read_counted address digit)) output.old output.new r ⌝ }
+    ensures { Written (reply E (state tag.now session) (read_counted address digit)) output.old output.new result }
 {
     let count = command_log::count_of(digit);
     let end = 1 + count;
@@ -101,7 +101,7 @@ struct Replied {
 // The reply to a command that gives no bytes, and the session after it.
 fn reply_with(output: &mut [u8], answer: Answer, session: Session) -> Replied
     requires { 2 ≤ length output.old }
-    ensures* { λ r. ⌜ Answered answer session output.old output.new r ⌝ }
+    ensures { Answered answer session output.old output.new result }
 {
     Replied {
         written: command_log::put_answer(output, answer),
@@ -122,7 +122,7 @@ fn reply_to(
     output: &mut [u8],
 ) -> Replied
     requires { (is_sound ≡ sound tag.old) × ComesNext log.now at next × Room log.now at end next output.old }
-    ensures* { λ r. ⌜ Replies E (state tag.old session) (command_at log.now at next) output.old tag.new output.new r ⌝ }
+    ensures { Replies E (state tag.old session) (command_at log.now at next) output.old tag.new output.new result }
 {
     match next {
         Next::PowerUp => reply_with(output, Answer::Done, power_up()),
@@ -156,7 +156,7 @@ fn reply_to(
 }
 
 fn stopped(read: usize, written: usize, stop: Stop, session: Session) -> rules::Run
-    ensures* { λ r. ⌜ r ≡ returned read written stop session ⌝ }
+    ensures { result ≡ returned read written stop session }
 {
     rules::Run {
         read,
@@ -168,7 +168,7 @@ fn stopped(read: usize, written: usize, stop: Stop, session: Session) -> rules::
 
 // Soundness is tested once: a sound tag stays sound, and nothing changes one that is not.
 pub fn run(tag: &mut [u8], session: Session, log: &[u8], output: &mut [u8]) -> rules::Run
-    ensures* { λ r. ⌜ result r tag.new output.new ≡ run_over E (state tag.old session) log.now output.old ⌝ }
+    ensures { left_by result tag.new output.new ≡ run_over E (state tag.old session) log.now output.old }
 {
     let is_sound = layout::sound(tag);
     let mut session = session;

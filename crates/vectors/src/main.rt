@@ -1,29 +1,28 @@
 // Prints what the cipher makes of published and of long blocks, words low byte first. The expected output is in stdout.
 #![tactic(auto)]
 
-use libc::STDOUT_FILENO;
+use std::io::{self, Write};
 use xxtea::Answer;
 
 const WORD: u32 = 0x89AB_CDEF;
 
-fn print(text: &[u8]) {
-    io::write_all(STDOUT_FILENO, text);
+fn print(rt: &impl Print, text: &[u8]) -> io::Result<()> {
+    io::writer(rt).write_all(text)
 }
 
-fn print_word(word: u32) {
+fn print_word(rt: &impl Print, word: u32) -> io::Result<()> {
     let swapped = word % 256 * 0x100_0000
         + word / 256 % 256 * 0x1_0000
         + word / 0x1_0000 % 256 * 256
         + word / 0x100_0000;
-    io::print_hex(STDOUT_FILENO, swapped as u64, 8);
+    print!(rt; "{swapped:08x}")
 }
 
-fn print_words(words: &[u32]) {
-    let mut i = 0;
-    while i < words.len() {
-        print_word(words[i]);
-        i += 1;
+fn print_words(rt: &impl Print, words: &[u32]) -> io::Result<()> {
+    for word in words {
+        print_word(rt, *word)?;
     }
+    Ok(())
 }
 
 fn all_are(words: &[u32], word: u32) -> bool {
@@ -37,60 +36,58 @@ fn all_are(words: &[u32], word: u32) -> bool {
 }
 
 // A published vector: two words, enciphered and deciphered again.
-fn vector(key: [u32; 4], data: [u32; 2]) {
+fn vector(rt: &impl Print, key: [u32; 4], data: [u32; 2]) -> io::Result<()> {
     let mut words = data;
-    print(b"key ");
-    print_words(&key);
-    print(b" data ");
-    print_words(&words);
+    print(rt, b"key ")?;
+    print_words(rt, &key)?;
+    print(rt, b" data ")?;
+    print_words(rt, &words)?;
     xxtea::encipher(&mut words, key);
-    print(b" enciphered ");
-    print_words(&words);
+    print(rt, b" enciphered ")?;
+    print_words(rt, &words)?;
     xxtea::decipher(&mut words, key);
-    print(b" deciphered ");
-    print_words(&words);
-    print(b"\n");
+    print(rt, b" deciphered ")?;
+    print_words(rt, &words)?;
+    print(rt, b"\n")
 }
 
 // A block of words that are all WORD; a refused one is not printed again.
-fn block(words: &mut [u32], key: [u32; 4]) {
+fn block(rt: &impl Print, words: &mut [u32], key: [u32; 4]) -> io::Result<()> {
     let n = words.len();
-    print(b"words ");
-    io::print_decimal(STDOUT_FILENO, n as u64);
-    print(b" rounds ");
-    io::print_decimal(STDOUT_FILENO, xxtea::rounds_for(n) as u64);
+    let rounds = xxtea::rounds_for(n);
+    print!(rt; "words {n} rounds {rounds}")?;
     match xxtea::encipher(words, key) {
         Answer::Done => {
-            print(b" enciphered ");
-            print_words(words);
+            print(rt, b" enciphered ")?;
+            print_words(rt, words)?;
         }
-        Answer::Refused => print(b" refused"),
+        Answer::Refused => print(rt, b" refused")?,
     }
     xxtea::decipher(words, key);
     if all_are(words, WORD) {
-        print(b" restored\n");
+        print(rt, b" restored\n")
     } else {
-        print(b" lost\n");
+        print(rt, b" lost\n")
     }
 }
 
-fn main() {
+fn main(rt: HostRuntime) -> io::Result<()> {
     let key = [0x0804_0201, 0x8040_2010, 0xF8FC_FEFF, 0x80C0_E0F0];
-    vector([0; 4], [0; 2]);
-    vector(key, [0; 2]);
-    vector(key, [0xF8FC_FEFF, 0x80C0_E0F0]);
+    vector(&rt, [0; 4], [0; 2])?;
+    vector(&rt, key, [0; 2])?;
+    vector(&rt, key, [0xF8FC_FEFF, 0x80C0_E0F0])?;
     vector(
+        &rt,
         [0xB979_379E, 0xE973_979B, 0x9E37_79B9, 0x5651_696B],
         [0xFFFF_FFFF; 2],
-    );
-    block(&mut [WORD; 1], key);
-    block(&mut [WORD; 2], key);
-    block(&mut [WORD; 4], key);
-    block(&mut [WORD; 52], key);
-    block(&mut [WORD; 53], key);
-    block(&mut [WORD; 1024], key);
-    block(&mut [WORD; 1025], key);
-    print(b"first deciphering sum for 4 words ");
-    io::print_hex(STDOUT_FILENO, xxtea::sum_in(xxtea::rounds_for(4)) as u64, 8);
-    print(b"\n");
+    )?;
+    block(&rt, &mut [WORD; 1], key)?;
+    block(&rt, &mut [WORD; 2], key)?;
+    block(&rt, &mut [WORD; 4], key)?;
+    block(&rt, &mut [WORD; 52], key)?;
+    block(&rt, &mut [WORD; 53], key)?;
+    block(&rt, &mut [WORD; 1024], key)?;
+    block(&rt, &mut [WORD; 1025], key)?;
+    let first = xxtea::sum_in(xxtea::rounds_for(4));
+    println!(rt; "first deciphering sum for 4 words {first:08x}")
 }
