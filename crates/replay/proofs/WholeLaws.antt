@@ -75,7 +75,7 @@ abbrev ahead : (i j : ℕ) → Totals → Totals
 ahead i j x = record { read = i + x.read; written = j + x.written; stop = x.stop; left = x.left }
 
 ahead_none : (x : Totals) → x ≡ ahead 0 0 x
-ahead_none x = rw (zero-add, zero-add)
+ahead_none x = rw (zero-add x.read, zero-add x.written)
 
 ahead_twice : (i j n m : ℕ) (x : Totals) → ahead i j (ahead n m x) ≡ ahead (i + n) (j + m) x
 ahead_twice i j n m x = rw (add_assoc i n, add_assoc j m)

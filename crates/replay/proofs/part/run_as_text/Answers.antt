@@ -1,6 +1,6 @@
 -- `replay::part::run_as_text` meets its contract: a run into a buffer of 4,096 bytes, and the lines of what is written.
 -- Assumes nothing.
-use Rattle.std.proofs.Common.{rules, ◌≡◌, length, ℕ, ◌≤◌, sym, arith}
+use Rattle.std.proofs.Common.{rules, sym, arith}
 use lib.Seq.{length-take-le}
 use Rattle.rules.specs.State.{state}
 use Rattle.rules.proofs.Runs.{runs_leave}
@@ -27,13 +27,13 @@ slice_bounds-lines-end c =
 pub returns-clause-part_run : goal.returns-clause-part_run
 returns-clause-part_run c =
     part_run (state c.args.image.now c.args.session) c.args.log.now _ c.run-run.result _ _ (sym c.reply_buffer-replies.ensures)
-        c.run-run.ensures
+    c.run-run.ensures
 
 pub returns-clause-part_text : goal.returns-clause-part_text
 returns-clause-part_text c =
     part_text (state c.args.image.now c.args.session) c.args.log.now _ c.run-run.result _ _ c.args.text.now _ _
-        (sym c.reply_buffer-replies.ensures)
-        c.run-run.ensures
-        (search rules)
-        c.lines-characters.ensures.text_after
-        c.lines-characters.ensures.value
+    (sym c.reply_buffer-replies.ensures)
+    c.run-run.ensures
+    (search rules)
+    c.lines-characters.ensures.text_after
+    c.lines-characters.ensures.value

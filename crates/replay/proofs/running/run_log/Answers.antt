@@ -10,7 +10,9 @@ use Rattle.replay.proofs.running.run_log.Goals as goal
 pub returns-then-is_full-printed : goal.returns-then-is_full-printed
 returns-then-is_full-printed g c =
     let ran = c.run_part-part.result in
-    let part = part_left _ c.args.log.now _ c.loop-run.read _ c.run_part-part.ensures in
+    let part =
+    part_left (state c.loop-run.image c.loop-run.session) c.args.log.now c.run_part-part.new.image c.loop-run.read ran.run
+    c.run_part-part.ensures in
     let behind = behind_from c.args.image.now _ _ _ _ _ _ c.power_up-session.ensures c.loop-run.invariant.3 in
     let ended : ran.printed ≡ true → is_full ran.run.stop ≡ false =
     λ p. sym c.is_full.ensures ∙ stops _ ran.printed c.if-is_full-printed.true p in
@@ -20,14 +22,18 @@ returns-then-is_full-printed g c =
 pub loop-run-smaller : goal.loop-run-smaller
 loop-run-smaller g c =
     let ran = c.run_part-part.result in
-    let part = part_left _ c.args.log.now _ c.loop-run.read _ c.run_part-part.ensures in
+    let part =
+    part_left (state c.loop-run.image c.loop-run.session) c.args.log.now c.run_part-part.new.image c.loop-run.read ran.run
+    c.run_part-part.ensures in
     let full = sym c.is_full.ensures ∙ goes_on _ ran.printed c.if-is_full-printed.false in
     part_moves c.args.log.now _ _ _ c.loop-run.read _ part full
 
 pub loop-run-preserved : goal.loop-run-preserved
 loop-run-preserved g c =
     let ran = c.run_part-part.result in
-    let part = part_left _ c.args.log.now _ c.loop-run.read _ c.run_part-part.ensures in
+    let part =
+    part_left (state c.loop-run.image c.loop-run.session) c.args.log.now c.run_part-part.new.image c.loop-run.read ran.run
+    c.run_part-part.ensures in
     let full = sym c.is_full.ensures ∙ goes_on _ ran.printed c.if-is_full-printed.false in
     let m = part_moves c.args.log.now _ _ _ c.loop-run.read _ part full in
     let r = part.read_within in
@@ -38,5 +44,13 @@ loop-run-preserved g c =
       c.run_part-part.auto.image ∙ c.loop-run.invariant.0,
       omega arith,
       omega arith,
-      behind_next _ _ _ _ _ _ _ ran.run c.loop-run.invariant.3 part full,
+      behind_next (state c.args.image.now c.power_up-session.result) c.args.log.now c.loop-run.image
+          c.run_part-part.new.image
+          c.loop-run.session
+          c.loop-run.read
+          c.loop-run.written
+          ran.run
+          c.loop-run.invariant.3
+          part
+          full,
     )
