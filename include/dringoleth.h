@@ -1,5 +1,5 @@
 /*
- * The access control of the tag: link with libtag_c.a, which `rt staticlib tag_c` writes.
+ * The access control of the tag: link with libtag_c.a, which `./staticlib tag_c` writes.
  *
  * Every function is proved to meet its contract for every input (crates/tag_c/src/lib.rt; docs/GUARANTEES.md says what
  * that means). Nothing has to be tested before a call: a tag of any length and content, any session, address, count,

@@ -1,5 +1,5 @@
 /*
- * The cipher XXTEA, as its authors published it: link with libxxtea_c.a, which `rt staticlib xxtea_c` writes.
+ * The cipher XXTEA, as its authors published it: link with libxxtea_c.a, which `./staticlib xxtea_c` writes.
  *
  * Both functions are proved to meet their contract for every input (crates/xxtea_c/src/lib.rt): what they leave is what
  * the published definition says, and each undoes the other. They work in place on n words of 32 bits with a key of four

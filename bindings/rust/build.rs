@@ -1,4 +1,4 @@
-// Links libtag_c.a, which `rt staticlib tag_c` writes. DRINGOLETH_LIB names another folder that has it.
+// Links libtag_c.a, which `./staticlib tag_c` writes. DRINGOLETH_LIB names another folder that has it.
 use std::env;
 use std::path::{Path, PathBuf};
 
@@ -11,7 +11,7 @@ fn main() {
     let archive = folder.join("libtag_c.a");
     if !archive.exists() {
         panic!(
-            "{} is not there: run `rt staticlib tag_c`, or name its folder in DRINGOLETH_LIB",
+            "{} is not there: run `./staticlib tag_c`, or name its folder in DRINGOLETH_LIB",
             archive.display()
         );
     }

@@ -1,7 +1,7 @@
 -- `reads::judge_read_in` meets its contract: place by place. Assumes nothing.
 use Rattle.layout.proofs.Laws.{unit_found, segment_offset}
 use Rattle.reads.proofs.Laws.{readable, unreadable, unit_read_in, segment_read_in}
-use Rattle.std.proofs.Common.{sym, ◌∙◌, arith}
+use Rattle.std.proofs.Common.{sym, ◌∙◌, arith, rules}
 use Rattle.units.proofs.Laws.{unit_length}
 use Rattle.reads.proofs.judge_read_in.Goals as goal
 
@@ -48,6 +48,4 @@ returns-in-Segment c =
     c.judge_segment_read.ensures ∙ segment_read_in _ _ _ _ _ _ found.1 c.in-Segment.is
 
 pub returns-in_default : goal.returns-in_default
-returns-in_default c =
-    let a = c.in_default in
-    sym (unreadable _ _ _ _ a.not-Header a.not-Readers a.not-UnitOf a.not-Segment a.not-Public)
+returns-in_default c = sym (search (rules, unreadable))
