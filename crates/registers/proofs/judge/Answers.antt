@@ -26,7 +26,7 @@ returns-in-Name c =
     let bs : List ℕ = c.args.«data».now in
     let named : block_checks E s Name bs ≡ name_checks c.args.tag.now (pin_index c.args.session) = refl in
     let sized : lowest (register_checks E s c.args.register bs) ≡ lowest (block_checks E s c.args.register bs) =
-        right_size _ _ _ _ c.if-data-ne16.false in
+    right_size _ _ _ _ c.if-data-ne16.false in
     cc
 
 pub returns-in-Commit : goal.returns-in-Commit
