@@ -28,8 +28,8 @@ fn named(readers: &[u8], i: usize) -> usize
     octets::number16(readers, ROW_SIZE * i + 16)
 }
 
-// The id of a row, where it stands. A call of its own: drawn into the loops over the rows it would make the library a third
-// larger and its stack deeper than the header says.
+// The id of a row, where it stands. A call of its own: drawn into the loops over the rows it would make the library for C
+// twice as large, and its stack deeper than the header says.
 #[inline(never)]
 fn id_of(readers: &[u8], i: usize) -> &[u8]
     requires { (length readers.now ≡ 4096) × (i < 85) }
