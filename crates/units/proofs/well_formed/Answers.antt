@@ -7,4 +7,11 @@ use Rattle.units.proofs.well_formed.Goals as goal
 pub returns : goal.returns
 unfolding bit part
 returns c =
-    rw (well_formed_but_model _ c.requires.1) (cc)
+    rw (
+      well_formed_but_model _ c.requires.1,
+      c.all_zero.ensures,
+      c.number16.ensures,
+      c.number16-2.ensures,
+      c.number16-3.ensures,
+      c.all_zero-2.ensures,
+    )
