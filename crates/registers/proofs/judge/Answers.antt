@@ -2,11 +2,9 @@
 use Rattle.octets.proofs.Laws.{part_lent}
 use Rattle.registers.proofs.Laws.{other_size, right_size, block_response, block_plain}
 use Rattle.rules.proofs.Tests.{none_applies}
-use Rattle.rules.specs.Refusals.{lowest, register_checks, block_checks, name_checks}
-use Rattle.rules.specs.State.{State, state, pin_index, owner_index, guard}
-use Rattle.rules.specs.declared.Register.TheVariants.{Name}
-use Rattle.xxtea.specs.Block.{E}
-use Rattle.std.proofs.Common.{◌≡◌, ℕ, List, refl, sym, ap, ◌∙◌}
+use Rattle.rules.specs.Refusals.{lowest, block_checks}
+use Rattle.rules.specs.State.{pin_index, owner_index, guard}
+use Rattle.std.proofs.Common.{sym, ap, ◌∙◌}
 use Rattle.registers.proofs.judge.Goals as goal
 
 pub returns-then-data-ne16 : goal.returns-then-data-ne16
@@ -22,12 +20,8 @@ returns-in-Read c =
 pub returns-in-Name : goal.returns-in-Name
 unfolding block_checks pin_index
 returns-in-Name c =
-    let s : State = state c.args.tag.now c.args.session in
-    let bs : List ℕ = c.args.«data».now in
-    let named : block_checks E s Name bs ≡ name_checks c.args.tag.now (pin_index c.args.session) = refl in
-    let sized : lowest (register_checks E s c.args.register bs) ≡ lowest (block_checks E s c.args.register bs) =
-    right_size _ _ _ _ c.if-data-ne16.false in
-    cc
+    c.judge_flag.ensures
+    ∙ rw (c.number16-pin.ensures, c.in-Name.is) (sym (right_size _ _ _ _ c.if-data-ne16.false))
 
 pub returns-in-Commit : goal.returns-in-Commit
 unfolding block_checks pin_index owner_index guard

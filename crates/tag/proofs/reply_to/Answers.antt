@@ -92,7 +92,7 @@ unfolding command_of
 returns-in-PowerUp c =
     let a = c.args in
     let e = ap (command_at a.log.now a.at) c.in-PowerUp.is in
-    powered_up_lem (state a.tag.now a.session) _ _ _ _ _ _ e (cc) c.reply_with.ensures
+    powered_up_lem (state a.tag.now a.session) _ _ _ _ _ _ e c.power_up.ensures c.reply_with.ensures
 
 pub returns-in-Read : goal.returns-in-Read
 returns-in-Read c =

@@ -12,4 +12,4 @@ bounds-key-p c = key_at c.args.p c.args.sum
 
 pub returns : goal.returns
 unfolding mix
-returns c = cc
+returns c = rw (c.wrapping_add_u32.ensures.value, c.wrapping_add_u32-2.ensures.value)
