@@ -1,3 +1,4 @@
+-- What is left to prove of `hosts::count` beside its invariant. Assumes nothing.
 use Rattle.hosts.proofs.ListLaws.{row_next, row_none, rows_end}
 use Rattle.hosts.specs.Joining.{rows_from}
 use Rattle.rules.specs.Bytes.{zeros}

@@ -1,3 +1,4 @@
+-- What is left to prove of `hosts::has_id` beside its invariant. Assumes nothing.
 use Rattle.hosts.proofs.ListLaws.{sought_next, sought_end, walk_start}
 use Rattle.rules.specs.Hosts.{most_hosts, any, has_id}
 use Rattle.std.proofs.Common.{refl, arith}

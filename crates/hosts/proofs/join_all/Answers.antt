@@ -1,3 +1,4 @@
+-- What is left to prove of `hosts::join_all` beside its invariant. Assumes nothing.
 use Rattle.hosts.proofs.SlotLaws.{joined_first, joined-next, joined-last}
 use Rattle.std.proofs.Common.{arith}
 use Rattle.hosts.proofs.join_all.Goals as goal

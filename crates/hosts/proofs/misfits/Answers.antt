@@ -1,3 +1,4 @@
+-- What is left to prove of `hosts::misfits` beside its invariant. Assumes nothing.
 use Rattle.hosts.proofs.ListLaws.{sought_next, sought_end, walk_start}
 use Rattle.rules.specs.Hosts.{hosts, most_hosts, readers, any}
 use Rattle.rules.specs.Refusals.{misfit}

@@ -1,3 +1,4 @@
+-- What is left to prove of `hosts::misses` beside its invariant. Assumes nothing.
 use Rattle.hosts.proofs.ListLaws.{missed-next, missed_end, walk_start}
 use Rattle.rules.specs.Hosts.{most_hosts}
 use Rattle.std.proofs.Common.{refl, arith}

@@ -1,3 +1,4 @@
+-- What is left to prove of `hosts::repeated` beside its invariant. Assumes nothing.
 use Rattle.hosts.proofs.ListLaws.{sought_next, sought_end, walk_start, walk_at, id_copied}
 use Rattle.rules.specs.Hosts.{host_at, any, twin}
 use Rattle.std.proofs.Common.{◌+◌, ◌<◌, refl, arith}

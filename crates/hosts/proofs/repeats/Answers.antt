@@ -1,3 +1,4 @@
+-- What is left to prove of `hosts::repeats` beside its invariant. Assumes nothing.
 use Rattle.hosts.proofs.ListLaws.{sought_next, sought_end, walk_start}
 use Rattle.rules.specs.Hosts.{most_hosts, repeats}
 use Rattle.std.proofs.Common.{refl, arith}

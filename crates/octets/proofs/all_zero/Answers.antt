@@ -1,3 +1,4 @@
+-- What is left to prove of `octets::all_zero` beside its invariant. Assumes nothing.
 use Rattle.octets.proofs.Laws.{zeros-next, zeros_end}
 use Rattle.std.proofs.Common.{refl, arith}
 use Rattle.octets.proofs.all_zero.Goals as goal

@@ -1,3 +1,4 @@
+-- What is left to prove of `octets::copy` beside its invariant. Assumes nothing.
 use Rattle.octets.proofs.Laws.{walk_first, walk_next, walk_end, rest_at, put_at, put_rest}
 use Rattle.rules.proofs.BytesLaws.{length-put}
 use Rattle.std.proofs.Common.{sym, arith, length}

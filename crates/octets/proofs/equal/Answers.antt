@@ -1,3 +1,4 @@
+-- What is left to prove of `octets::equal` beside its invariant. Assumes nothing.
 use Rattle.octets.proofs.Laws.{same_next, same_end, other_length}
 use Rattle.std.proofs.Common.{refl, sym, arith}
 use Rattle.octets.proofs.equal.Goals as goal

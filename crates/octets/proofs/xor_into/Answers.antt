@@ -1,3 +1,4 @@
+-- What is left to prove of `octets::xor_into` beside its invariant. Assumes nothing.
 use Rattle.octets.proofs.Laws.{walk_first, walk_next, walk_end, rest_at, walk_at, xor_at, xor_rest}
 use Rattle.rules.proofs.BytesLaws.{length-xor}
 use Rattle.std.proofs.Common.{sym, ap, ◌∙◌, arith, length, get_or, bit_xor}

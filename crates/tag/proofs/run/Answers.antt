@@ -1,3 +1,4 @@
+-- What is left to prove of `tag::run` beside its invariant. Assumes nothing.
 use Rattle.command_log.specs.Next.{room_asked, kind_of, command_at, length_of}
 use Rattle.rules.specs.State.{state}
 use Rattle.std.proofs.Common.{◌+◌, ◌-◌, ◌≤◌, ◌<◌, ◌≡◌, refl, ap, subst, ◌∙◌, arith, length}
