@@ -2,7 +2,7 @@
 // replies. The definitions behind the contracts are in `rules`, Log.antt.
 #![tactic(auto)]
 
-ghost use Rattle.std.specs.Prelude.{◌≡◌, ℕ, ◌≤◌, ◌<◌, List, length};
+ghost use Rattle.std.specs.Prelude.{◌≡◌, ℕ, ◌≤◌, ◌<◌, List, length, Some};
 ghost use Rattle.rules.specs.Bytes.{byte, put};
 ghost use Rattle.rules.specs.Answers.{number_of};
 ghost use Rattle.rules.specs.Command.{done};
@@ -12,7 +12,8 @@ ghost use Rattle.command_log.specs.Next.{ComesNext, kind_of, command_at, length_
 
 use rules::{Answer, Refusal};
 
-// What comes next in a log, by its kind. A read and a write have the last digit of theirs, which tells their count.
+// What comes next in a log, by its kind; `None` is a 15, an unknown kind or a short body. A read and a write have the last
+// digit of their kind, a number and no enum: document 01 tells their count by it, and a reply's code is 0x40 and the digit.
 #[derive(Clone, Copy)]
 pub enum Next {
     PowerUp,
@@ -20,12 +21,11 @@ pub enum Next {
     Write(u8),
     Advance,
     Insert,
-    // A 15: an unknown kind or a short body.
-    Unreadable,
 }
 
 // "11, 12, 13, 14 read 1, 8, 16, 32 bytes .. 21, 22, 23, 24 write as many .. 41 to 44 with the data": the count, by the last
 // digit.
+#[tactic(auto, unfolding(rules::specs::Log::count_of))]
 pub fn count_of(digit: u8) -> usize
     ensures { (result ≡ count_of digit) × (result ≤ 32) }
 {
@@ -39,32 +39,33 @@ pub fn count_of(digit: u8) -> usize
 }
 
 // The bytes that it takes; a 15 takes none.
-pub fn length_of(next: Next) -> usize
+#[tactic(auto, unfolding(rules::specs::Log::body_length))]
+pub fn length_of(next: Option<Next>) -> usize
     ensures { result ≡ length_of (kind_of next) }
 {
     match next {
-        Next::PowerUp => 1,
-        Next::Read(_) => 5,
-        Next::Write(digit) => 5 + count_of(digit),
-        Next::Advance => 3,
-        Next::Insert => 19,
-        Next::Unreadable => 0,
+        Some(Next::PowerUp) => 1,
+        Some(Next::Read(_)) => 5,
+        Some(Next::Write(digit)) => 5 + count_of(digit),
+        Some(Next::Advance) => 3,
+        Some(Next::Insert) => 19,
+        None => 0,
     }
 }
 
 // A command of the kind that a byte of the log has, if its body is whole.
-fn if_whole(log: &[u8], at: usize, next: Next) -> Next
-    requires { (at < length log.now) × (kind_of next ≡ kind_in kinds (byte at log.now)) }
+fn if_whole(log: &[u8], at: usize, next: Next) -> Option<Next>
+    requires { (at < length log.now) × (kind_of (Some next) ≡ kind_in kinds (byte at log.now)) }
     ensures { ComesNext log.now at result }
 {
-    if log.len() - at < length_of(next) {
-        return Next::Unreadable;
+    if log.len() - at < length_of(Some(next)) {
+        return None;
     }
-    next
+    Some(next)
 }
 
 // What begins at a byte of the log.
-pub fn next_at(log: &[u8], at: usize) -> Next
+pub fn next_at(log: &[u8], at: usize) -> Option<Next>
     requires { at < length log.now }
     ensures { ComesNext log.now at result }
 {
@@ -75,58 +76,41 @@ pub fn next_at(log: &[u8], at: usize) -> Next
         0x21..=0x24 => if_whole(log, at, Next::Write(kind - 0x20)),
         0x31 => if_whole(log, at, Next::Advance),
         0x32 => if_whole(log, at, Next::Insert),
-        _ => Next::Unreadable,
+        _ => None,
     }
 }
 
 // The room that its reply must find, wherever it stands in a log.
 #[tactic(auto, unfolding(rules::specs::Log::command_of, rules::specs::Log::room_for))]
-pub fn room_of(next: Next) -> usize
+pub fn room_of(next: Option<Next>) -> usize
     ensures { (log : List ℕ) (at : ℕ) → result ≡ room_asked (command_at log at next) }
 {
-    if let Next::Read(digit) = next {
-        return 1 + count_of(digit);
+    match next {
+        Some(Next::Read(digit)) => 1 + count_of(digit),
+        _ => 2,
     }
-    2
 }
 
 // The number of a refusal.
 pub fn number_of(refusal: Refusal) -> u8
     ensures { result ≡ number_of refusal }
 {
-    match refusal {
-        Refusal::Unsound => 1,
-        Refusal::Count => 2,
-        Refusal::Outside => 3,
-        Refusal::NeverTaken => 4,
-        Refusal::Malformed => 5,
-        Refusal::Forbidden => 6,
-        Refusal::OtherPin => 7,
-        Refusal::OtherName => 8,
-        Refusal::BadRegister => 9,
-        Refusal::FlagUsed => 10,
-        Refusal::WrongResponse => 11,
-        Refusal::NotNext => 12,
-        Refusal::BadEdit => 13,
-        Refusal::OtherModel => 14,
-        Refusal::Unreadable => 15,
-        Refusal::Repeated => 18,
-        Refusal::BadInsertion => 19,
-    }
+    refusal as u8
 }
 
-// The reply to a command that gives no bytes, at the start of the output; its length is handed back.
+// The reply to a command that gives no bytes, at the start of the output; its length is handed back. The output stays a
+// slice of two bytes or more: as an array it would lose those behind the reply.
 pub fn put_answer(output: &mut [u8], answer: Answer) -> usize
     requires { 2 ≤ length output.old }
     ensures output_after { output.new ≡ put 0 (encoded (reply_of answer done)) output.old }
     ensures value { result ≡ length (encoded (reply_of answer done)) }
 {
     match answer {
-        Answer::Done => {
+        Ok(()) => {
             output[0] = 0x50;
             1
         }
-        Answer::Refused(refusal) => {
+        Err(refusal) => {
             output[0] = 0x51;
             output[1] = number_of(refusal);
             2
@@ -140,9 +124,11 @@ pub fn put_read(output: &mut [u8], answer: Answer, digit: u8) -> usize
     ensures output_after { output.new ≡ put 0 (read_head answer (count_of digit)) output.old }
     ensures value { result ≡ read_length answer (count_of digit) }
 {
-    if let Answer::Done = answer {
-        output[0] = 0x40 + digit;
-        return 1 + count_of(digit);
+    match answer {
+        Ok(()) => {
+            output[0] = 0x40 + digit;
+            1 + count_of(digit)
+        }
+        Err(_) => put_answer(output, answer),
     }
-    put_answer(output, answer)
 }

@@ -7,7 +7,7 @@ use native.Mathlib.Omega.{arith}
 use lib.ListN.{length}
 use borrow.Rule.Slice.PartMut.{mid_of, put_mid}
 use Rattle.rules.specs.Bytes.{part, put}
-use Rattle.rules.specs.Map.{readers_at, segments, segments_at, sound, unit_at}
+use Rattle.rules.specs.Map.{readers_at, segments, sound, unit_at}
 use Rattle.rules.specs.Units.{unit_bytes}
 use Rattle.rules.specs.Hosts.{row_at, host_at, hosts, readers}
 use Rattle.rules.specs.Effects.{apply, inserted, insert_stores, row_store}
@@ -28,7 +28,6 @@ pub record Sized (t : List ℕ) (k : ℕ) (id : List ℕ) : Type 0 where
   pub inside : unit_at k + 32 ≤ length t
   pub small : k < 65536
   pub few : length (hosts t) < 85
-  pub id_long : length id ≡ 16
 
 module _ (t : List ℕ) (k : ℕ) (id : List ℕ) (insertable : Insertable t k id) where
   w : sound t ≡ true
@@ -47,22 +46,19 @@ module _ (t : List ℕ) (k : ℕ) (id : List ℕ) (insertable : Insertable t k i
         inside = omega (arith, g.0, g.1, h);
         small = omega (arith, g.0, g.1, h, z.largest);
         few = f.few;
-        id_long = f.long;
       }
 
-  pub rows_of : (base x : ℕ) → base ≡ segments_at (segments t) → x ≡ length (hosts t) → Rows t base x k
-  rows_of base x p q =
+  pub rows_of : (x : ℕ) → x ≡ length (hosts t) → Rows t x k
+  rows_of x q =
       let g = sound_long t w in
-      let own = own_end t k id w f in
       let few = f.few in
       record {
-        start = p;
-        above = omega (arith, p, g.0);
+        above = omega (arith, g.0);
         few = omega (arith, few, q);
-        own = omega (arith, own, p);
+        own = own_end t k id w f;
         low = λ i l. (row i (omega (arith, l, q))).low;
         other = λ i l. (row i (omega (arith, l, q))).other;
-        inside = λ i l. let b = row i (omega (arith, l, q)) in let y = b.low in let z = b.inside in omega (arith, y, z, p);
+        inside = λ i l. let b = row i (omega (arith, l, q)) in let y = b.low in let z = b.inside in omega (arith, y, z);
       }
     where
       row : (i : ℕ) → i < length (hosts t) → Beside (segments t) k (length t) (host_at (readers t) i)

@@ -1,5 +1,5 @@
 -- The laws of `hosts` that belong to no one function.
-pub mod ListLaws
+pub mod RowLaws
 pub mod FitLaws
 pub mod SlotLaws
 pub mod InsertLaws

@@ -1,16 +1,22 @@
--- What the functions of `hosts` hand each other: the list in a lent reader ID segment, and what an insertion asks of the tag
--- and makes of it. Assumes nothing.
-use Rattle.std.specs.Prelude.{ℕ, ◌+◌, ◌-◌, ◌*◌, ◌≤◌, ◌<◌, ◌≡◌, ◌≢◌, true, false, List, length}
-use Rattle.rules.specs.Map.{segments, segments_at, sound, unit_at}
+-- What the functions of `hosts` hand each other: a row of the list, and what an insertion asks of the tag and makes of it.
+-- Assumes nothing.
+use Rattle.std.specs.Prelude.{ℕ, ◌+◌, ◌-◌, ◌≤◌, ◌<◌, ◌≡◌, ◌≢◌, Bool, true, false, ◌||◌, not, List, length, leb}
+use Rattle.rules.specs.Map.{segments, segment_at, segments_at, sound, unit_at}
 use Rattle.rules.specs.Units.{well_formed, unit_bytes, unit_of}
-use Rattle.rules.specs.Hosts.{Host, host_at, hosts, hosts_from, host_slot_at, readers}
+use Rattle.rules.specs.Hosts.{Host, host_at, hosts, host_slot_at, names, readers}
 use Rattle.rules.specs.Refusals.{is_filling, list_refuses}
 use Rattle.rules.specs.Effects.{apply, join_stores, pair_stores}
 
--- ---- the list in the reader ID segment r, from row i on
+-- ---- rows of the list
 
-abbrev pub rows_from : ℕ → List ℕ → List Host
-rows_from i r = hosts_from (85 - i) i r
+-- the host of a row that stands alone: its 18 bytes
+abbrev pub host_of : List ℕ → Host
+host_of row = host_at row 0
+
+-- of the row of host h, whose slot is at offset `at`: it names another segment than k, or the n bytes at offset o miss its
+-- slot
+abbrev pub spared : (k o n at : ℕ) → Host → Bool
+spared k o n at h = not (names k h) || (leb (o + n) at || leb (at + 48) o)
 
 -- ---- an insertion into the tag t
 
@@ -26,15 +32,14 @@ pub record Insertable (t : List ℕ) (k : ℕ) (id : List ℕ) : Type 0 where
 abbrev pub named_by : List ℕ → ℕ → ℕ
 named_by t i = (host_at (readers t) i).named
 
--- the segments begin at `base`, the first x rows name segments that are there, and none of them is segment k
-pub record Rows (t : List ℕ) (base x k : ℕ) : Type 0 where
-  pub start : base ≡ segments_at (segments t)
-  pub above : unit_at 0 ≤ base
+-- the first x rows name segments that are there, and none of them is segment k, which is there too
+pub record Rows (t : List ℕ) (x k : ℕ) : Type 0 where
+  pub above : unit_at 0 ≤ segments_at (segments t)
   pub few : x < 85
-  pub own : base + 4096 * k + 4096 ≤ length t
+  pub own : segment_at (segments t) k + 4096 ≤ length t
   pub low : (i : ℕ) → i < x → 1 ≤ named_by t i
   pub other : (i : ℕ) → i < x → named_by t i ≢ k + 1
-  pub inside : (i : ℕ) → i < x → base + 4096 * named_by t i ≤ length t
+  pub inside : (i : ℕ) → i < x → segment_at (segments t) (named_by t i) ≤ length t
 
 -- the tag after the pair of row i and the new host `id` of segment k, whose row is row x; and after the pairs of all rows
 abbrev pub row_paired : List ℕ → (x k : ℕ) (id : List ℕ) (i : ℕ) → List ℕ

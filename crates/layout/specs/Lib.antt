@@ -1,2 +1,1 @@
--- The root of the definitions of `layout`.
-pub mod Found
+-- `layout` has no definitions of its own.

@@ -6,7 +6,6 @@ ghost use Rattle.std.specs.Prelude.{◌≡◌, true, ℕ, ◌+◌, ◌%◌, ◌^
 ghost use Rattle.rules.specs.Map.{segments, publics, most, smallest_tag, segments_at, sound, unit_at, rows, register_no, find, place_of};
 ghost use Rattle.rules.specs.Units.{unit_bytes};
 ghost use Rattle.rules.specs.Hosts.{readers};
-ghost use Rattle.layout.specs.Found.{found, found_if};
 
 use rules::{Place, Register};
 
@@ -37,13 +36,6 @@ const MOST: usize = 128;
 // The length of the smallest tag that is sound.
 const SMALLEST: usize = 20480;
 
-// The place that holds a range of addresses, if one does.
-#[derive(Clone, Copy)]
-pub enum Found {
-    In(Place),
-    Outside,
-}
-
 // A, the number of access-controlled segments.
 pub fn segments(tag: &[u8]) -> usize
     requires { 4 ≤ length tag.now }
@@ -52,7 +44,7 @@ pub fn segments(tag: &[u8]) -> usize
     octets::number16(tag, 0)
 }
 
-// P, the number of public segments.
+// P, the number of public segments, in the two bytes behind A's.
 pub fn publics(tag: &[u8]) -> usize
     requires { 4 ≤ length tag.now }
     ensures { result ≡ publics tag.now }
@@ -77,13 +69,13 @@ pub fn unit_at(k: usize) -> usize
 }
 
 // The 32 bytes of unit k.
-pub fn unit_of(tag: &[u8], k: usize) -> &[u8]
+pub fn unit_of(tag: &[u8], k: usize) -> &[u8; 32]
     requires { unit_at k + 32 ≤ length tag.now }
     ensures { result.now ≡ unit_bytes tag.now k }
 {
     let start = unit_at(k);
     let end = start + 32;
-    &tag[start..end]
+    tag[start..end].as_array().unwrap()
 }
 
 // Where the segments begin, behind the units of A segments.
@@ -109,6 +101,9 @@ fn tests_hold(tag: &[u8]) -> bool
         & octets::all_zero(&tag[PINS..PINS + 16])
 }
 
+// Whether a tag is sound. What it answers goes on beside the tag (`is_sound`) or as a `requires`, and not in a type that
+// holds a sound tag: in every clause the tag's bytes would be `tag.entry.bytes.now` and `tag.bytes.now`, where a lent slice's
+// are `tag.now`. So what reads a tag asks for as many bytes as it reads.
 pub fn sound(tag: &[u8]) -> bool
     ensures { result ≡ sound tag.now }
 {
@@ -118,17 +113,7 @@ pub fn sound(tag: &[u8]) -> bool
     tests_hold(tag)
 }
 
-fn within(fits: bool, place: Place) -> Found
-    ensures { found result ≡ found_if fits place }
-{
-    if fits {
-        Found::In(place)
-    } else {
-        Found::Outside
-    }
-}
-
-// The registers, in the order of their addresses.
+// The registers, in the order of their addresses. No `TryFrom`: as in the rules, every number has one.
 fn register_no(i: usize) -> Register
     ensures { result ≡ register_no i }
 {
@@ -143,70 +128,69 @@ fn register_no(i: usize) -> Register
     }
 }
 
-// The places of the first segment: header, hidden part, registers.
-fn first_place(at: usize, n: usize) -> Found
+// The places of the first segment: header, hidden part, registers. Address and count stay two numbers here and above, as a
+// command has them, and `1 ≤ n` a clause: a `NonZeroUsize` would be made of the command's count and read back in every sum.
+fn first_place(at: usize, n: usize) -> Option<Place>
     requires { (at + n ≤ 4096) × (1 ≤ n) }
-    ensures { (a p : ℕ) → a ≤ most → found result ≡ find (rows a p) at n }
+    ensures { (a p : ℕ) → a ≤ most → result ≡ find (rows a p) at n }
 {
     if at < OWNERS {
-        return within(n <= OWNERS - at, Place::Header);
+        return (n <= OWNERS - at).then_some(Place::Header);
     }
     if at < REGISTERS {
-        return within(n <= REGISTERS - at, Place::Hidden);
+        return (n <= REGISTERS - at).then_some(Place::Hidden);
     }
-    within(
-        n <= 16 - at % 16,
-        Place::RegisterOf(register_no((at - REGISTERS) / 16)),
-    )
+    let register = register_no((at - REGISTERS) / 16);
+    (n <= 16 - at % 16).then_some(Place::RegisterOf(register))
 }
 
 // The first three segments, which are the same on every tag.
-fn fixed_place(at: usize, n: usize) -> Found
+fn fixed_place(at: usize, n: usize) -> Option<Place>
     requires { (at < unit_at 0) × (at % 4096 + n ≤ 4096) × (1 ≤ n) }
-    ensures { (a p : ℕ) → a ≤ most → found result ≡ find (rows a p) at n }
+    ensures { (a p : ℕ) → a ≤ most → result ≡ find (rows a p) at n }
 {
     if at < PINS {
         return first_place(at, n);
     }
     if at < READERS {
-        Found::In(Place::Pins)
+        Some(Place::Pins)
     } else {
-        Found::In(Place::Readers)
+        Some(Place::Readers)
     }
 }
 
 // The units, and the spare place behind them.
-fn unit_place(a: usize, at: usize, n: usize) -> Found
+fn unit_place(a: usize, at: usize, n: usize) -> Option<Place>
     requires { (a ≤ most) × (unit_at 0 ≤ at) × (at + n ≤ segments_at a) × (1 ≤ n) }
-    ensures { (p : ℕ) → found result ≡ find (rows a p) at n }
+    ensures { (p : ℕ) → result ≡ find (rows a p) at n }
 {
     let k = (at - UNITS) / 32;
     if k < a {
-        within(n <= 32 - at % 32, Place::UnitOf(k))
+        (n <= 32 - at % 32).then_some(Place::UnitOf(k))
     } else {
-        Found::In(Place::Spare)
+        Some(Place::Spare)
     }
 }
 
 // The segment of 4,096 bytes that holds n bytes, which do not reach beyond one.
-fn segment_place(a: usize, p: usize, at: usize, n: usize) -> Found
+fn segment_place(a: usize, p: usize, at: usize, n: usize) -> Option<Place>
     requires { (a ≤ most) × (segments_at a ≤ at) × (at % 4096 + n ≤ 4096) × (1 ≤ n) }
-    ensures { found result ≡ find (rows a p) at n }
+    ensures { result ≡ find (rows a p) at n }
 {
     let k = (at - segments_at(a)) / 4096;
     if k < a {
-        return Found::In(Place::Segment(k));
+        return Some(Place::Segment(k));
     }
-    within(k - a < p, Place::Public(k - a))
+    (k - a < p).then_some(Place::Public(k - a))
 }
 
 // The place that holds n bytes at an address. No place reaches beyond 4,096 bytes.
-pub fn place_of(tag: &[u8], at: usize, n: usize) -> Found
+pub fn place_of(tag: &[u8], at: usize, n: usize) -> Option<Place>
     requires { (sound tag.now ≡ true) × (1 ≤ n) }
-    ensures { found result ≡ place_of tag.now at n }
+    ensures { result ≡ place_of tag.now at n }
 {
     if 4096 - at % 4096 < n {
-        return Found::Outside;
+        return None;
     }
     let a = segments(tag);
     if segments_at(a) <= at {

@@ -16,74 +16,58 @@ ghost use Rattle.xxtea.specs.Block.{E};
 ghost use Rattle.moves.specs.Moves.{MoveJudged};
 
 use rules::{Answer, Model, Refusal, Session, Stage};
-use units::Decoded;
-
-// What an advance comes to: the unit leaves this stage.
-#[derive(Clone, Copy)]
-enum Move {
-    Advance(Stage),
-    Refuse(Refusal),
-}
 
 // ---- advances
 
-// 14: only model 3 advances, and not from stage 2.
-fn judge_stage(model: Model) -> Move
+// 14: only model 3 advances, and not from stage 2. What is granted is an advance from this stage.
+fn judge_stage(model: Model) -> Result<Stage, Refusal>
     ensures { MoveJudged (14 when not (can_advance model) else granted) model result }
 {
     let Model::Receiver(stage) = model else {
-        return Move::Refuse(Refusal::OtherModel);
+        return Err(Refusal::OtherModel);
     };
     match stage {
-        Stage::Zero => Move::Advance(Stage::Zero),
-        Stage::One => Move::Advance(Stage::One),
-        Stage::Two => Move::Refuse(Refusal::OtherModel),
+        Stage::Zero => Ok(Stage::Zero),
+        Stage::One => Ok(Stage::One),
+        Stage::Two => Err(Refusal::OtherModel),
     }
 }
 
-fn judge_advance(unit: &[u8], write: usize, name: &[u8]) -> Move
-    requires { length unit.now ≡ 32 }
+// 5, 7, 8 and 14, in this order, by the two parts of the session that these look at.
+fn judge_advance(unit: &[u8; 32], write: usize, name: &[u8]) -> Result<Stage, Refusal>
     ensures { MoveJudged (advance_checks write name.now unit.now) (unit_of unit.now).model result }
 {
-    let Decoded::Unit(u) = units::decode(unit) else {
-        return Move::Refuse(Refusal::Malformed);
+    let Some(u) = units::decode(unit) else {
+        return Err(Refusal::Malformed);
     };
     let other_name = u.pn & !units::named(unit, name);
-    let held = units::judge_rights(false, u.wrpin & !(write == u.write), other_name);
-    if let Answer::Refused(r) = held {
-        return Move::Refuse(r);
-    }
-    let model = u.model;
-    judge_stage(model)
+    units::judge_rights(false, u.wrpin & (write != u.write), other_name)?;
+    judge_stage(u.model)
 }
 
+// It begins as `insert_sound` does, with 3; what is judged and changed differs.
 fn advance_sound(tag: &mut [u8], session: Session, segment: usize) -> Answer
     requires { sound tag.old ≡ true }
     ensures result_value { refusal_of result ≡ refusal E (state tag.old session) (command.advance segment) }
     ensures session_after { state tag.new session ≡ after E (state tag.old session) (command.advance segment) }
 {
     if !(segment < layout::segments(tag)) {
-        return Answer::Refused(Refusal::Outside);
+        return Err(Refusal::Outside);
     }
-    let name = session.name;
-    match judge_advance(layout::unit_of(tag, segment), session.write, &name) {
-        Move::Advance(stage) => {
-            let start = layout::unit_at(segment);
-            let end = start + 32;
-            units::advance(&mut tag[start..end], stage);
-            Answer::Done
-        }
-        Move::Refuse(r) => Answer::Refused(r),
-    }
+    let stage = judge_advance(layout::unit_of(tag, segment), session.write, &session.name)?;
+    let start = layout::unit_at(segment);
+    let end = start + 32;
+    units::advance(&mut tag[start..end], stage);
+    Ok(())
 }
 
-// An advance on any bytes whatever. The caller has tested whether the tag is sound.
+// An advance on any bytes whatever. The caller has tested whether the tag is sound (`layout::sound` has why a `bool` says so).
 pub fn advance(tag: &mut [u8], is_sound: bool, session: Session, segment: usize) -> Answer
     requires { is_sound ≡ sound tag.old }
     ensures { CarriedOut E (state tag.old session) (command.advance segment) tag.new (outcome result session) }
 {
     if !is_sound {
-        return Answer::Refused(Refusal::Unsound);
+        return Err(Refusal::Unsound);
     }
     advance_sound(tag, session, segment)
 }
@@ -92,46 +76,39 @@ pub fn advance(tag: &mut [u8], is_sound: bool, session: Session, segment: usize)
 
 // 5, 7, 8, 14 and 19, in this order.
 fn judge_insert(tag: &[u8], write: usize, name: &[u8], k: usize, id: [u8; 16]) -> Answer
-    requires { (sound tag.now ≡ true) × (k < segments tag.now) × (length id ≡ 16) }
+    requires { (sound tag.now ≡ true) × (k < segments tag.now) }
     ensures { refusal_of result ≡ lowest (insert_checks write name.now tag.now k id) }
 {
     let unit = layout::unit_of(tag, k);
-    let Decoded::Unit(u) = units::decode(unit) else {
-        return Answer::Refused(Refusal::Malformed);
+    let Some(u) = units::decode(unit) else {
+        return Err(Refusal::Malformed);
     };
     let other_name = u.pn & !units::named(unit, name);
-    let other_pin = u.wrpin & !(write == u.write);
-    let held = units::judge_rights(false, other_pin, other_name);
-    if let Answer::Refused(r) = held {
-        return Answer::Refused(r);
-    }
-    let model = u.model;
-    if !units::is_filling(model) {
-        return Answer::Refused(Refusal::OtherModel);
+    let other_pin = u.wrpin & (write != u.write);
+    units::judge_rights(false, other_pin, other_name)?;
+    if !units::is_filling(u.model) {
+        return Err(Refusal::OtherModel);
     }
     if hosts::refuses(tag, k, id) {
-        return Answer::Refused(Refusal::BadInsertion);
+        return Err(Refusal::BadInsertion);
     }
-    Answer::Done
+    Ok(())
 }
 
 fn insert_sound(tag: &mut [u8], session: Session, segment: usize, id: [u8; 16]) -> Answer
-    requires { (sound tag.old ≡ true) × (length id ≡ 16) }
+    requires { sound tag.old ≡ true }
     ensures result_value { refusal_of result ≡ refusal E (state tag.old session) (command.insert segment id) }
     ensures session_after { state tag.new session ≡ after E (state tag.old session) (command.insert segment id) }
 {
     if !(segment < layout::segments(tag)) {
-        return Answer::Refused(Refusal::Outside);
+        return Err(Refusal::Outside);
     }
-    let name = session.name;
-    let answer = judge_insert(tag, session.write, &name, segment, id);
-    if let Answer::Done = answer {
-        hosts::insert(tag, segment, id);
-    }
-    answer
+    judge_insert(tag, session.write, &session.name, segment, id)?;
+    hosts::insert(tag, segment, id);
+    Ok(())
 }
 
-// An insertion on any bytes whatever. The caller has tested whether the tag is sound.
+// An insertion on any bytes whatever. The caller has tested whether the tag is sound (`layout::sound` has why a `bool` says so).
 pub fn insert(
     tag: &mut [u8],
     is_sound: bool,
@@ -143,7 +120,7 @@ pub fn insert(
     ensures { CarriedOut E (state tag.old session) (command.insert segment id) tag.new (outcome result session) }
 {
     if !is_sound {
-        return Answer::Refused(Refusal::Unsound);
+        return Err(Refusal::Unsound);
     }
     insert_sound(tag, session, segment, id)
 }

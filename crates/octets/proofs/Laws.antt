@@ -1,97 +1,64 @@
 -- The laws that the loops of `octets` and the callers of its leaves cite. Assumes nothing.
-use Prim.Native.Nat.{ℕ, zero, suc, ◌+◌, ◌-◌, ◌*◌, ◌/◌, ◌%◌, ◌≤◌, ◌<◌}
+use Prim.Native.Nat.{ℕ, zero, suc, ◌+◌, ◌-◌, ◌*◌, ◌/◌, ◌%◌, ◌≤◌, ◌<◌, min}
 use mathlib.Core.Path.{◌≡◌, refl, sym, ap, ◌∙◌}
-use mathlib.Core.Logic.{◌⊎◌, inl, inr}
 use mathlib.Core.Bool.{Bool, true, false, ◌&&◌}
 use mathlib.Core.List.{List, [], ◌∷◌, ◌++◌}
 use native.Mathlib.Omega.{arith}
 use native.Mathlib.Numerals.{add-one}
-use lib.ListN.{length, get_or, take, drop, set, replicate, length-set, take-append-drop, drop_of_length-le, length-drop}
-use lib.Seq.{length-take-le}
+use lib.ListN.{length, get_or, take, drop, set, replicate, length-drop}
+use lib.Seq.{get_or-drop, length-take-le}
 use borrow.Rule.Slice.PartMut.{put_mid, mid_of}
 use lib.Bits.{bit_xor, xor_comm}
 use lib.Dec.{eqb}
-use Rattle.rules.proofs.BytesLaws.{length-put, put_behind, put-append, length-xor}
+use Rattle.std.specs.Int.{to_be_bytes, w16}
+use Rattle.std.specs.List.{fold, zip}
+use Rattle.rules.proofs.BytesLaws.{put-none, length-xor}
 use Rattle.rules.specs.Bytes.{bytes_of, part, put, number, number_from, same, zeros, xor}
 
--- ---- numbers: the first byte of a part is its highest digit
+-- ---- numbers, from the highest digit to the lowest
 
-number_first : (v at n : ℕ) (t : List ℕ) → at < length t
-    → number_from v (part at (suc n) t) ≡ number_from (v * 256 + get_or t at 0) (part (suc at) n t)
+number_more : (v k : ℕ) (bs : List ℕ) → k < length bs
+    → number_from v (take (suc k) bs) ≡ number_from v (take k bs) * 256 + get_or bs k 0
+unfolding number_from
+number_more v k [] h = absurd (omega arith)
+number_more v zero (b ∷ bs) h = refl
+number_more v (suc k) (b ∷ bs) h = number_more (v * 256 + b) k bs (omega arith)
+
+-- the first n bytes from `at` on
+abbrev pub digits : ℕ → List ℕ → ℕ → ℕ
+digits zero t at = 0
+digits (suc n) t at = digits n t at * 256 + get_or t (at + n) 0
+
+number_digits : (n : ℕ) (t : List ℕ) (at : ℕ) → at + n ≤ length t → digits n t at ≡ number (part at n t)
 unfolding part number_from
-number_first v at n [] h = absurd (omega arith)
-number_first v zero n (x ∷ t) h = refl
-number_first v (suc at) n (x ∷ t) h = number_first v at n t (omega arith)
-
--- of `n` bytes, those from byte i on are left
-abbrev pub digits : ℕ → ℕ → List ℕ → ℕ → ℕ → ℕ
-digits zero i t at v = v
-digits (suc n) i t at v = digits n (suc i) t at (v * 256 + get_or t (at + i) 0)
-
-number_digits : (n i : ℕ) (t : List ℕ) (at v : ℕ) → at + i + n ≤ length t
-    → digits n i t at v ≡ number_from v (part (at + i) n t)
-unfolding part number_from
-number_digits zero i t at v h = refl
-number_digits (suc n) i t at v h =
-    let e : at + suc i ≡ suc (at + i) = omega arith in
-    let w = v * 256 + get_or t (at + i) 0 in
-    number_digits n (suc i) t at w (omega arith) ∙ ap (λ a. number_from w (part a n t)) e
-    ∙ sym (number_first v (at + i) n t (omega arith))
+number_digits zero t at h = refl
+number_digits (suc n) t at h =
+    let inside : n < length (drop at t) = omega (arith, length-drop at t) in
+    omega (arith, number_digits n t at (omega arith), number_more 0 n (drop at t) inside, get_or-drop at t n 0)
 
 -- Horner's rule
-pub horner : (n : ℕ) (t : List ℕ) (at : ℕ) → at + suc n ≤ length t
-    → digits n 1 t at (get_or t at 0) ≡ number (part at (suc n) t)
-horner n t at h =
-    let e : at + 1 ≡ suc at = omega arith in
-    let z : get_or t at 0 ≡ 0 * 256 + get_or t at 0 = omega arith in
-    number_digits n 1 t at (get_or t at 0) (omega arith) ∙ ap (λ a. number_from (get_or t at 0) (part a n t)) e
-    ∙ ap (λ v. number_from v (part (suc at) n t)) z ∙ sym (number_first 0 at n t (omega arith))
+pub horner : (n : ℕ) (t : List ℕ) (at : ℕ) → at + suc n ≤ length t → digits (suc n) t at ≡ number (part at (suc n) t)
+horner n t at h = number_digits (suc n) t at h
 
--- ---- comparing: a test of all is the test so far and that of the rest; one more, and the end
+pub number_next : (n i d : ℕ) (ds : List ℕ) → i < length ds → n ≡ number (take i ds) → d ≡ get_or ds i 0
+    → n * 256 + d ≡ number (take (i + 1) ds)
+number_next n i d ds h e f = rw add-one (omega (arith, e, f, number_more 0 i ds h))
 
-and_next : (whole all b left rest : Bool) → whole ≡ (all && left) → left ≡ (b && rest) → whole ≡ ((all && b) && rest)
-and_next whole true b left rest e f = e ∙ f
-and_next whole false b left rest e f = e
+pub be_bytes_two : (v : ℕ) → to_be_bytes w16 (v % 0x10000) ≡ bytes_of 2 v
+unfolding bytes_of
+be_bytes_two v =
+    let high : v % 0x10000 / 256 % 256 ≡ v / 256 % 256 = omega arith in
+    let low : v % 0x10000 % 256 ≡ v % 256 = omega arith in
+    rw (high, low)
 
-and_end : (whole all left : Bool) → whole ≡ (all && left) → left ≡ true → all ≡ whole
-and_end whole true left e f = sym (e ∙ f)
-and_end whole false left e f = sym e
+-- ---- comparing: a test of all is the test so far and that of the rest
 
-pub zeros-next : (all : Bool) (i : ℕ) (t : List ℕ) → i < length t → zeros t ≡ (all && zeros (drop i t))
-    → zeros t ≡ ((all && eqb (get_or t i 0) 0) && zeros (drop (i + 1) t))
+pub zeros_fold : (all : Bool) (bs : List ℕ) → fold (λ all b. all && eqb b 0) all bs ≡ (all && zeros bs)
 unfolding zeros
-zeros-next all i t h e = rw add-one (and_next (zeros t) all _ (zeros (drop i t)) (zeros (drop (suc i) t)) e (at i t h))
-  where
-    at : (i : ℕ) (t : List ℕ) → i < length t → zeros (drop i t) ≡ (eqb (get_or t i 0) 0 && zeros (drop (suc i) t))
-    at i [] h = absurd (omega arith)
-    at zero (x ∷ t) h = refl
-    at (suc i) (x ∷ t) h = at i t (omega arith)
-
-pub zeros_end : (all : Bool) (i : ℕ) (t : List ℕ) → length t ≤ i → zeros t ≡ (all && zeros (drop i t)) → all ≡ zeros t
-unfolding zeros
-zeros_end all i t h e = and_end (zeros t) all (zeros (drop i t)) e (rw (drop_of_length-le t {i = i} h))
-
-pub same_next : (all : Bool) (i : ℕ) (s t : List ℕ) → length s ≡ length t → i < length s
-    → same s t ≡ (all && same (drop i s) (drop i t))
-    → same s t ≡ ((all && eqb (get_or s i 0) (get_or t i 0)) && same (drop (i + 1) s) (drop (i + 1) t))
-unfolding same
-same_next all i s t l h e =
-    rw add-one
-    (and_next (same s t) all _ (same (drop i s) (drop i t)) (same (drop (suc i) s) (drop (suc i) t)) e (at i s t l h))
-  where
-    at : (i : ℕ) (s t : List ℕ) → length s ≡ length t → i < length s
-        → same (drop i s) (drop i t) ≡ (eqb (get_or s i 0) (get_or t i 0) && same (drop (suc i) s) (drop (suc i) t))
-    at i [] t e h = absurd (omega arith)
-    at i (x ∷ s) [] e h = absurd (omega arith)
-    at zero (x ∷ s) (y ∷ t) e h = refl
-    at (suc i) (x ∷ s) (y ∷ t) e h = at i s t (omega arith) (omega arith)
-
-pub same_end : (all : Bool) (i : ℕ) (s t : List ℕ) → length s ≡ length t → length s ≤ i
-    → same s t ≡ (all && same (drop i s) (drop i t)) → all ≡ same s t
-unfolding same
-same_end all i s t l h e =
-    and_end (same s t) all (same (drop i s) (drop i t)) e
-    (rw (drop_of_length-le s {i = i} h, drop_of_length-le t {i = i} (omega arith)))
+zeros_fold true [] = refl
+zeros_fold false [] = refl
+zeros_fold true (b ∷ bs) = zeros_fold (eqb b 0) bs
+zeros_fold false (b ∷ bs) = zeros_fold false bs
 
 pub other_length : (s t : List ℕ) → (length s ≡ length t → ⊥) → same s t ≡ false
 unfolding same
@@ -104,86 +71,54 @@ other_length (x ∷ s) (y ∷ t) h = rw (other_length s t (λ e. h (omega arith)
     and_false true = refl
     and_false false = refl
 
--- ---- a walk that turns bytes into a result of the same length, one after another: the first i are done
+pub same_fold : (all : Bool) (s t : List ℕ) → length s ≡ length t
+    → fold (λ all (p : ℕ × ℕ). all && eqb p.0 p.1) all (zip s t) ≡ (all && same s t)
+unfolding same
+same_fold true [] [] e = refl
+same_fold false [] [] e = refl
+same_fold all [] (y ∷ t) e = absurd (omega arith)
+same_fold all (x ∷ s) [] e = absurd (omega arith)
+same_fold true (x ∷ s) (y ∷ t) e = same_fold (eqb x y) s t (omega arith)
+same_fold false (x ∷ s) (y ∷ t) e = same_fold false s t (omega arith)
 
-pub record Walked (result old bytes : List ℕ) (i : ℕ) : Type 0 where
-  pub size : length bytes ≡ length old
-  pub done : bytes ≡ take i result ++ drop i old
+-- ---- the XOR and the store of the first i bytes
 
-pub walk_first : (result old : List ℕ) → Walked result old old 0
-walk_first result old = record { size = refl; done = refl }
+pub xor_none : (xs : List ℕ) → xor xs [] ≡ xs
+unfolding xor
+xor_none [] = refl
+xor_none (x ∷ xs) = refl
 
-pub walk_next : (result old bytes : List ℕ) (i v : ℕ) → length result ≡ length old → i < length old
-    → v ≡ get_or result i 0 → Walked result old bytes i → Walked result old (set bytes i v) (i + 1)
-walk_next result old bytes i v e h f w =
-    record {
-      size = simp length-set w.size;
-      done = rw (w.done, f, add-one) (one_more result old i e h);
-    }
-  where
-    one_more : (r o : List ℕ) (i : ℕ) → length r ≡ length o → i < length o
-        → set (take i r ++ drop i o) i (get_or r i 0) ≡ take (suc i) r ++ drop (suc i) o
-    one_more r [] i e h = absurd (omega arith)
-    one_more [] (y ∷ o) i e h = absurd (omega arith)
-    one_more (x ∷ r) (y ∷ o) zero e h = refl
-    one_more (x ∷ r) (y ∷ o) (suc i) e h = ap (λ l. x ∷ l) (one_more r o i (omega arith) (omega arith))
+pub xor_next : (i : ℕ) (xs ys : List ℕ) → i < length xs → i < length ys
+    → set (xor xs (take i ys)) i (bit_xor (get_or (xor xs (take i ys)) i 0) (get_or ys i 0)) ≡ xor xs (take (suc i) ys)
+unfolding xor
+xor_next i [] ys h l = absurd (omega arith)
+xor_next i (x ∷ xs) [] h l = absurd (omega arith)
+xor_next zero (x ∷ xs) (y ∷ ys) h l = rw (xor_none xs)
+xor_next (suc i) (x ∷ xs) (y ∷ ys) h l = ap (λ r. bit_xor x y ∷ r) (xor_next i xs ys (omega arith) (omega arith))
 
--- a byte that is not done yet is the old one
-pub walk_at : (result old bytes : List ℕ) (i : ℕ) → length result ≡ length old → i < length old
-    → Walked result old bytes i → get_or bytes i 0 ≡ get_or old i 0
-walk_at result old bytes i e h w = rw w.done (at result old i e h)
-  where
-    at : (r o : List ℕ) (i : ℕ) → length r ≡ length o → i < length o → get_or (take i r ++ drop i o) i 0 ≡ get_or o i 0
-    at r [] i e h = absurd (omega arith)
-    at [] (y ∷ o) i e h = absurd (omega arith)
-    at (x ∷ r) (y ∷ o) zero e h = refl
-    at (x ∷ r) (y ∷ o) (suc i) e h = at r o i (omega arith) (omega arith)
+pub xor_end : (n : ℕ) (xs ys : List ℕ) → min (length xs) (length ys) ≤ n → xor xs (take n ys) ≡ xor xs ys
+unfolding xor
+xor_end n [] ys h = refl
+xor_end zero (x ∷ xs) [] h = refl
+xor_end (suc n) (x ∷ xs) [] h = refl
+xor_end zero (x ∷ xs) (y ∷ ys) h = absurd (omega arith)
+xor_end (suc n) (x ∷ xs) (y ∷ ys) h = ap (λ r. bit_xor x y ∷ r) (xor_end n xs ys (omega arith))
 
--- it may end where the rest of the result is the old rest
-pub walk_end : (result old bytes : List ℕ) (i : ℕ) → drop i result ≡ drop i old → Walked result old bytes i
-    → bytes ≡ result
-walk_end result old bytes i e w = w.done ∙ rw (← e) (take-append-drop i result)
-
--- it ends at the shorter of two lengths
-pub rest_at : (m n least i : ℕ) → (m ≤ least) ⊎ (n ≤ least) → least ≤ i → (m ≤ i) ⊎ (n ≤ i)
-rest_at m n least i (inl h) l = inl (omega arith)
-rest_at m n least i (inr h) l = inr (omega arith)
-
--- ---- the results of the two walks
-
--- past the end nothing is left of either
-rest_none : (i : ℕ) (s t : List ℕ) → length s ≡ length t → length t ≤ i → drop i s ≡ drop i t
-rest_none i s t e h = drop_of_length-le s {i = i} (omega arith) ∙ sym (drop_of_length-le t h)
-
-pub put_at : (i : ℕ) (bs t : List ℕ) → i < length bs → i < length t → get_or (put 0 bs t) i 0 ≡ get_or bs i 0
+pub put_next : (i : ℕ) (bs t : List ℕ) → i < length bs → i < length t
+    → set (put 0 (take i bs) t) i (get_or bs i 0) ≡ put 0 (take (suc i) bs) t
 unfolding put
-put_at i bs [] h l = absurd (omega arith)
-put_at i [] (x ∷ t) h l = absurd (omega arith)
-put_at zero (b ∷ bs) (x ∷ t) h l = refl
-put_at (suc i) (b ∷ bs) (x ∷ t) h l = put_at i bs t (omega arith) (omega arith)
+put_next i [] t h l = absurd (omega arith)
+put_next i (b ∷ bs) [] h l = absurd (omega arith)
+put_next zero (b ∷ bs) (x ∷ t) h l = rw (put-none 0 t)
+put_next (suc i) (b ∷ bs) (x ∷ t) h l = ap (λ r. b ∷ r) (put_next i bs t (omega arith) (omega arith))
 
-pub put_rest : (i : ℕ) (bs t : List ℕ) → (length t ≤ i) ⊎ (length bs ≤ i) → drop i (put 0 bs t) ≡ drop i t
-put_rest i bs t (inl h) = rest_none i (put 0 bs t) t (length-put 0 bs t) h
-put_rest i bs t (inr h) = put_behind i bs t h
-
-pub xor_at : (i : ℕ) (xs ys : List ℕ) → i < length xs → i < length ys
-    → get_or (xor xs ys) i 0 ≡ bit_xor (get_or xs i 0) (get_or ys i 0)
-unfolding xor
-xor_at i [] ys h l = absurd (omega arith)
-xor_at i (x ∷ xs) [] h l = absurd (omega arith)
-xor_at zero (x ∷ xs) (y ∷ ys) h l = refl
-xor_at (suc i) (x ∷ xs) (y ∷ ys) h l = xor_at i xs ys (omega arith) (omega arith)
-
-pub xor_rest : (i : ℕ) (xs ys : List ℕ) → (length xs ≤ i) ⊎ (length ys ≤ i) → drop i (xor xs ys) ≡ drop i xs
-unfolding xor
-xor_rest i xs ys (inl h) = rest_none i (xor xs ys) xs (length-xor xs ys) h
-xor_rest i xs ys (inr h) = unwritten i xs ys h
-  where
-    unwritten : (i : ℕ) (xs ys : List ℕ) → length ys ≤ i → drop i (xor xs ys) ≡ drop i xs
-    unwritten i [] ys h = refl
-    unwritten i (x ∷ xs) [] h = refl
-    unwritten zero (x ∷ xs) (y ∷ ys) h = absurd (omega arith)
-    unwritten (suc i) (x ∷ xs) (y ∷ ys) h = unwritten i xs ys (omega arith)
+pub put_end : (n : ℕ) (bs t : List ℕ) → min (length t) (length bs) ≤ n → put 0 (take n bs) t ≡ put 0 bs t
+unfolding put
+put_end n bs [] h = refl
+put_end zero [] (x ∷ t) h = refl
+put_end (suc n) [] (x ∷ t) h = refl
+put_end zero (b ∷ bs) (x ∷ t) h = absurd (omega arith)
+put_end (suc n) (b ∷ bs) (x ∷ t) h = ap (λ r. b ∷ r) (put_end n bs t (omega arith))
 
 -- ---- bytes, one by one
 
@@ -284,13 +219,6 @@ put_inside (suc a) n o (suc p) bs (x ∷ t) e h = ap (λ l. x ∷ l) (put_inside
 
 pub put-part : (a n : ℕ) (bs t : List ℕ) → length bs ≤ n → put a (put 0 bs (part a n t)) t ≡ put a bs t
 put-part a n bs t h = put_inside a n 0 a bs t (omega arith) (omega arith)
-
--- a number of two bytes
-pub put_number : (a i : ℕ) (t : List ℕ) → set (set t a (i / 256 % 256)) (a + 1) (i % 256) ≡ put a (bytes_of 2 i) t
-unfolding bytes_of
-put_number a i t =
-    rw (set_put a (i / 256 % 256) t, set_put (a + 1) (i % 256) (put a (i / 256 % 256 ∷ []) t))
-    (sym (put-append a (i / 256 % 256 ∷ []) (i % 256 ∷ []) t))
 
 pub xor_swap : (xs ys : List ℕ) → length xs ≡ length ys → xor xs ys ≡ xor ys xs
 unfolding xor

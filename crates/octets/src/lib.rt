@@ -3,21 +3,31 @@
 // test would be paid on every command.
 #![tactic(auto)]
 
-ghost use Rattle.std.specs.Prelude.{◌≡◌, ◌⊎◌, ◌+◌, ◌≤◌, ◌<◌, length, replicate};
+ghost use Rattle.std.specs.Prelude.{◌≡◌, ◌+◌, ◌<◌, ◌^◌, ◌≤◌, length, replicate};
 ghost use Rattle.rules.specs.Bytes.{bytes_of, number, part, put, same, xor, zeros};
 
-fn wide(byte: u8) -> u64
-    ensures { (result ≡ byte) × (result < 256) }
+// The number that N bytes hold, most significant first. By Horner's rule eight become one load and a swap of bytes.
+// (By std's `from_be_bytes` a counter write took 338 instructions and not 316, and the C library 18,753 bytes and not 14,541.)
+fn number<const N: usize>(bytes: &[u8], at: usize) -> u64
+    requires short { N ≤ 8 }
+    requires inside { at + N ≤ length bytes.now }
+    ensures value { result ≡ number (part at N bytes.now) }
+    ensures fits { result < 256 ^ N }
 {
-    byte as u64
+    let digits = &bytes[at..at + N];
+    let mut number = 0;
+    for digit in digits {
+        number = number * 256 + u64::from(*digit);
+    }
+    number
 }
 
-// The number that two bytes hold, most significant first.
+// The number that two bytes hold.
 pub fn number16(bytes: &[u8], at: usize) -> usize
     requires { at + 2 ≤ length bytes.now }
     ensures { result ≡ number (part at 2 bytes.now) }
 {
-    (wide(bytes[at]) * 256 + wide(bytes[at + 1])) as usize
+    number::<2>(bytes, at) as usize
 }
 
 // The number that four bytes hold.
@@ -25,91 +35,62 @@ pub fn number32(bytes: &[u8], at: usize) -> usize
     requires { at + 4 ≤ length bytes.now }
     ensures { result ≡ number (part at 4 bytes.now) }
 {
-    (((wide(bytes[at]) * 256 + wide(bytes[at + 1])) * 256 + wide(bytes[at + 2])) * 256
-        + wide(bytes[at + 3])) as usize
+    number::<4>(bytes, at) as usize
 }
 
-// The number that eight bytes hold. By Horner's rule it becomes one load and a swap of bytes.
+// The number that eight bytes hold.
 pub fn number64(bytes: &[u8], at: usize) -> u64
     requires { at + 8 ≤ length bytes.now }
     ensures { result ≡ number (part at 8 bytes.now) }
 {
-    let high = ((wide(bytes[at]) * 256 + wide(bytes[at + 1])) * 256 + wide(bytes[at + 2])) * 256
-        + wide(bytes[at + 3]);
-    (((high * 256 + wide(bytes[at + 4])) * 256 + wide(bytes[at + 5])) * 256 + wide(bytes[at + 6]))
-        * 256
-        + wide(bytes[at + 7])
+    number::<8>(bytes, at)
 }
 
 // Whether two slices hold the same bytes. It looks at all of them, so that 16 are one comparison.
+// (By `a == b` a counter write took 395 instructions and not 316.)
 pub fn equal(a: &[u8], b: &[u8]) -> bool
     ensures { result ≡ same a.now b.now }
 {
-    if a.len() != b.len() {
-        return false;
-    }
-    let mut all = true;
-    let mut i = 0;
-    while i < a.len() {
-        all = all & (a[i] == b[i]);
-        i += 1;
-    }
-    all
+    a.len() == b.len() && a.iter().zip(b).fold(true, |all, (x, y)| all & (*x == *y))
 }
 
-// Whether every byte is 0.
+// Whether every byte is 0. It looks at all of them, so that 16 are one comparison.
+// (By `iter().all(..)` a single call of a counter write took 430 instructions and not 396.)
 pub fn all_zero(bytes: &[u8]) -> bool
     ensures { result ≡ zeros bytes.now }
 {
-    let mut all = true;
-    let mut i = 0;
-    while i < bytes.len() {
-        all = all & (bytes[i] == 0);
-        i += 1;
-    }
-    all
-}
-
-fn least(a: usize, b: usize) -> usize
-    ensures { (result ≤ a) × (result ≤ b) × ((a ≤ result) ⊎ (b ≤ result)) }
-{
-    if a < b { a } else { b }
+    bytes.iter().fold(true, |all, byte| all & (*byte == 0))
 }
 
 // The bytes become the data, as many as both have.
+// (`copy_from_slice` has the C library call memmove; of a zip over `iter_mut` no proof knows what the bytes are behind it.)
 fn copy(bytes: &mut [u8], data: &[u8])
     ensures { bytes.new ≡ put 0 «data».now bytes.old }
 {
-    let n = least(bytes.len(), data.len());
-    let mut i = 0;
-    while i < n {
+    for i in 0..bytes.len().min(data.len()) {
         bytes[i] = data[i];
-        i += 1;
     }
 }
 
-// The same. Eight bytes go through a local, so that they are one load and one store.
+// The same. Eight bytes are an array, so that they are one load and one store.
 pub fn store(bytes: &mut [u8], data: &[u8])
     ensures { bytes.new ≡ put 0 «data».now bytes.old }
 {
-    if (bytes.len() == 8) & (data.len() == 8) {
-        let mut slot = [0u8; 8];
-        copy(&mut slot, data);
-        copy(bytes, &slot);
+    if let (Some(slot), Some(eight)) = (bytes.as_mut_array::<8>(), data.as_array::<8>()) {
+        *slot = *eight;
     } else {
         copy(bytes, data);
     }
 }
 
 // The bytes become their XOR with the data, as many as both have.
+// (Of a zip over `iter_mut` no proof knows what the bytes are behind it. `copy` and this, as one over a closure, would be
+// longer.)
 pub fn xor_into(bytes: &mut [u8], data: &[u8])
     ensures { bytes.new ≡ xor bytes.old «data».now }
 {
-    let n = least(bytes.len(), data.len());
-    let mut i = 0;
-    while i < n {
-        bytes[i] = bytes[i] ^ data[i];
-        i += 1;
+    for i in 0..bytes.len().min(data.len()) {
+        bytes[i] ^= data[i];
     }
 }
 
@@ -118,8 +99,7 @@ pub fn store_at(bytes: &mut [u8], at: usize, data: &[u8])
     requires { at + length «data».now ≤ length bytes.old }
     ensures { bytes.new ≡ put at «data».now bytes.old }
 {
-    let end = at + data.len();
-    store(&mut bytes[at..end], data)
+    store(&mut bytes[at..at + data.len()], data)
 }
 
 // A number as two bytes, most significant first, at an address.
@@ -127,24 +107,23 @@ pub fn store16(bytes: &mut [u8], at: usize, value: usize)
     requires { at + 2 ≤ length bytes.old }
     ensures { bytes.new ≡ put at (bytes_of 2 value) bytes.old }
 {
-    bytes[at] = (value / 256 % 256) as u8;
-    bytes[at + 1] = (value % 256) as u8;
+    store_at(bytes, at, &((value % 0x10000) as u16).to_be_bytes())
 }
 
-// What is there becomes its XOR with the data.
+// What is there becomes its XOR with the data: as `store_at`, but for what is called.
 pub fn xor_at(bytes: &mut [u8], at: usize, data: &[u8])
     requires { at + length «data».now ≤ length bytes.old }
     ensures { bytes.new ≡ put at (xor (part at (length «data».now) bytes.old) «data».now) bytes.old }
 {
-    let end = at + data.len();
-    xor_into(&mut bytes[at..end], data)
+    xor_into(&mut bytes[at..at + data.len()], data)
 }
 
-// The first sixteen bytes as an array, zeros where there are fewer.
+// The first sixteen bytes as an array, zeros where there are fewer. Not `as_array`, so that it asks for no length
+// (docs/DECISIONS.md).
 pub fn sixteen(data: &[u8]) -> [u8; 16]
     ensures { result ≡ put 0 «data».now (replicate 16 0) }
 {
-    let mut block = [0u8; 16];
+    let mut block = [0; 16];
     store(&mut block, data);
     block
 }

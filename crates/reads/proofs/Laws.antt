@@ -1,14 +1,12 @@
 -- Laws on reads that the judges and the command above them cite. Assumes nothing.
+use Rattle.std.specs.Prelude.{None, Option, Some}
 use Prim.Native.Nat.{ℕ, ◌+◌, ◌-◌, ◌%◌, ◌≤◌}
 use mathlib.Core.Path.{◌≡◌, refl, sym, ap, ◌∙◌}
 use mathlib.Core.Logic.{◌≢◌, ◌⊎◌, inl, inr}
 use mathlib.Core.Bool.{Bool, true, false, ◌&&◌, ◌||◌, not}
 use mathlib.Core.List.{List}
-use mathlib.Core.Option.{Option, none, some}
-use native.Mathlib.Omega.{arith}
 use lib.ListN.{length}
 use lib.Dec.{eqb, ltb}
-use borrow.Author.Tests.{eqb-false}
 use Rattle.rules.specs.declared.Unit.{Unit}
 use Rattle.rules.specs.declared.Session.{Session}
 use Rattle.rules.specs.declared.Place.{Place}
@@ -22,12 +20,11 @@ use Rattle.rules.specs.Refusals.{Checks, ◌when◌else◌, granted, hides, lowe
 use Rattle.rules.specs.Effects.{apply}
 use Rattle.rules.specs.Command.{read, checks, refusal, in_place, reply, reply_by, grant, filled}
 use Rattle.rules.specs.Command.{after, after_by, stores, new_session}
-use Rattle.rules.proofs.Tests.{some_none, or_false, passes, gives, leaves, none_applies, joined-three}
+use Rattle.rules.proofs.Tests.{some_none, passes, gives, leaves, none_applies, joined-three}
 use Rattle.rules.proofs.MapLaws.{sizes}
 use Rattle.rules.proofs.Places.{the_map}
 use Rattle.rules.proofs.Grants.{reply_is}
 use Rattle.rules.proofs.Refused.{not_11, refused_stays}
-use Rattle.units.specs.declared.Decoded.TheVariants.{Unit as Whole, Malformed}
 use Rattle.units.specs.Decoded.{decoded}
 use Rattle.units.proofs.Laws.{decoded_whole}
 use Rattle.units.proofs.FormLaws.{formless, formed}
@@ -35,33 +32,33 @@ use Rattle.units.proofs.FormLaws.{formless, formed}
 -- ---- reads of a segment and of a unit
 
 pub segment_formless : (i : ℕ) (name t : List ℕ) (k o n : ℕ) (hs : List Host) (u : List ℕ) → u ≡ unit_bytes t k
-    → decoded u ≡ Malformed → lowest (segment_read_checks i name (unit_bytes t k) k o n hs) ≡ some 5
+    → decoded u ≡ None → lowest (segment_read_checks i name (unit_bytes t k) k o n hs) ≡ Some 5
 unfolding segment_read_checks
 segment_formless i name t k o n hs u e d = formless (unit_bytes t k) _ (ap decoded (sym e) ∙ d)
 
 pub segment_read_by : (i : ℕ) (name t : List ℕ) (k o n : ℕ) (hs : List Host) (u : List ℕ) (x : Unit) → u ≡ unit_bytes t k
-    → decoded u ≡ Whole x
+    → decoded u ≡ Some x
     → lowest (segment_read_checks i name (unit_bytes t k) k o n hs)
     ≡ lowest (6 when not x.rd else 6 when hides x.model k o n hs else 7 when x.rdpin && not (eqb i x.read) else
     8 when x.pn && not (same name (name_of u)) else granted)
 unfolding segment_read_checks
 segment_read_by i name t k o n hs u x e d = rw (← e) (formed u x _ d ∙ rw (decoded_whole u x d).1)
 
-pub unit_read_by : (u : List ℕ) (o : ℕ) (x : Unit) → decoded u ≡ Whole x
+pub unit_read_by : (u : List ℕ) (o : ℕ) (x : Unit) → decoded u ≡ Some x
     → lowest (unit_read_checks u o) ≡ lowest (6 when x.pn && ltb 16 o else granted)
 unfolding unit_read_checks
 unit_read_by u o x e = formed u x _ e ∙ rw (decoded_whole u x e).1
 
 -- the variants of `Place` that any read may have, and those that no read may have
 pub readable : (s : State) (p : Place) (a n : ℕ) → (p ≡ Header) ⊎ ((p ≡ Readers) ⊎ ((k : ℕ) × (p ≡ Public k)))
-    → lowest (read_checks s p a n) ≡ none
+    → lowest (read_checks s p a n) ≡ None
 unfolding read_checks
 readable s p a n (inl e) = rw e none_applies
 readable s p a n (inr (inl e)) = rw e none_applies
 readable s p a n (inr (inr (k, e))) = rw e none_applies
 
 pub unreadable : (s : State) (p : Place) (a n : ℕ) → p ≢ Header → p ≢ Readers → ((k : ℕ) → p ≢ UnitOf k)
-    → ((k : ℕ) → p ≢ Segment k) → ((k : ℕ) → p ≢ Public k) → lowest (read_checks s p a n) ≡ some 4
+    → ((k : ℕ) → p ≢ Segment k) → ((k : ℕ) → p ≢ Public k) → lowest (read_checks s p a n) ≡ Some 4
 unfolding read_checks
 unreadable s Header a n h r u g b = absurd (h refl)
 unreadable s Hidden a n h r u g b = gives 4 true granted refl
@@ -91,13 +88,13 @@ segment_read_in t v p k a n e f = rw (f, e)
 abbrev pub miscounted : (n room : ℕ) → Bool
 miscounted n room = (eqb n 0 || ltb 4096 n) || ltb room n
 
-placed_nowhere : (f : Place → Checks) → lowest (in_place none f) ≡ some 3
+placed_nowhere : (f : Place → Checks) → lowest (in_place None f) ≡ Some 3
 unfolding in_place
 placed_nowhere f = gives 3 true granted refl
 
 module _ (E : Cipher) (s : State) (a n room : ℕ) where
   pub read_miscounted : sound s.tag ≡ true → miscounted n room ≡ true
-      → refusal E s (read a n room) ≡ some 2
+      → refusal E s (read a n room) ≡ Some 2
   unfolding refusal checks
   read_miscounted w e = leaves 1 _ _ (ap not w) ∙ joined-three 2 _ _ _ _ ∙ gives 2 _ _ e
 
@@ -107,17 +104,17 @@ module _ (E : Cipher) (s : State) (a n room : ℕ) where
   read_counted w e = leaves 1 _ _ (ap not w) ∙ joined-three 2 _ _ _ _ ∙ leaves 2 _ _ e
 
   pub read_outside : sound s.tag ≡ true → miscounted n room ≡ false
-      → place_of s.tag a n ≡ none → refusal E s (read a n room) ≡ some 3
+      → place_of s.tag a n ≡ None → refusal E s (read a n room) ≡ Some 3
   read_outside w e f = read_counted w e ∙ rw f (placed_nowhere _)
 
   pub read_placed : (p : Place) → sound s.tag ≡ true → miscounted n room ≡ false
-      → place_of s.tag a n ≡ some p → refusal E s (read a n room) ≡ lowest (read_checks s p a n)
+      → place_of s.tag a n ≡ Some p → refusal E s (read a n room) ≡ lowest (read_checks s p a n)
   unfolding in_place
   read_placed p w e f = read_counted w e ∙ rw f
 
   -- ---- what is read lies in the tag, and goes to the start of the output; the state stays
 
-  pub read_inside : sound s.tag ≡ true → refusal E s (read a n room) ≡ none
+  pub read_inside : sound s.tag ≡ true → refusal E s (read a n room) ≡ None
       → (a + n ≤ length s.tag) × (length s.tag ≤ largest_tag)
   unfolding refusal checks
   read_inside w e =
@@ -127,23 +124,19 @@ module _ (E : Cipher) (s : State) (a n room : ℕ) where
       let c4 = passes _ _ _ c3.1 in
       (by (place_of s.tag a n) refl c4.1, (sizes s.tag w).largest)
     where
-      by : (q : Option Place) → place_of s.tag a n ≡ q → lowest (in_place q (λ p. read_checks s p a n)) ≡ none
+      by : (q : Option Place) → place_of s.tag a n ≡ q → lowest (in_place q (λ p. read_checks s p a n)) ≡ None
           → a + n ≤ length s.tag
-      by none f h = some_none (sym (placed_nowhere _) ∙ h)
-      by (some p) f h = (the_map s.tag w).in_tag p a n f
+      by None f h = some_none (sym (placed_nowhere _) ∙ h)
+      by (Some p) f h = (the_map s.tag w).in_tag p a n f
 
-  pub read_fills : (out : List ℕ) → refusal E s (read a n room) ≡ none
+  pub read_fills : (out : List ℕ) → refusal E s (read a n room) ≡ None
       → filled (reply E s (read a n room)) out ≡ put 0 (part a n s.tag) out
   unfolding filled reply_by grant
-  read_fills out e = ap (λ r. filled r out) (reply_is E s (read a n room) none e)
+  read_fills out e = ap (λ r. filled r out) (reply_is E s (read a n room) None e)
 
   pub read_stays : after E s (read a n room) ≡ s
   read_stays = by (refusal E s (read a n room)) refl
     where
       by : (r : Option ℕ) → refusal E s (read a n room) ≡ r → after E s (read a n room) ≡ s
-      by none e = unfold after after_by stores new_session apply in rw e
-      by (some m) e = refused_stays E s (read a n room) m e (not_11 E s (read a n room) refl m e)
-
-pub count_least : (n room : ℕ) → miscounted n room ≡ false → 1 ≤ n
-count_least n room e =
-    let z : n ≢ 0 = eqb-false n 0 (or_false _ _ (or_false _ _ e).0).0 in omega arith
+      by None e = unfold after after_by stores new_session apply in rw e
+      by (Some m) e = refused_stays E s (read a n room) m e (not_11 E s (read a n room) refl m e)

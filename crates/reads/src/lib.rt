@@ -3,8 +3,7 @@
 // in Calls.antt, with XXTEA on blocks (`E`) as the cipher.
 #![tactic(auto)]
 
-ghost use Rattle.std.specs.Prelude.{◌≡◌, true, ◌+◌, ◌%◌, ◌≤◌, ◌<◌, length};
-ghost use Rattle.std.proofs.Math.Option.{some};
+ghost use Rattle.std.specs.Prelude.{◌≡◌, true, ◌+◌, ◌%◌, ◌≤◌, ◌<◌, length, Some};
 ghost use Rattle.rules.specs.Map.{sound, segments, place_of};
 ghost use Rattle.rules.specs.Units.{unit_bytes};
 ghost use Rattle.rules.specs.Hosts.{hosts};
@@ -16,9 +15,7 @@ ghost use Rattle.rules.specs.Command as command;
 ghost use Rattle.rules.specs.Calls.{CarriedOut, outcome};
 ghost use Rattle.xxtea.specs.Block.{E};
 
-use layout::Found;
 use rules::{Answer, Place, Refusal, Session};
-use units::Decoded;
 
 // A read of n bytes at an address in segment k. In model 4 the list of hosts may forbid it too. Each refusal returns at
 // once, so that a test is made only where those before it passed.
@@ -27,52 +24,49 @@ fn judge_segment_read(tag: &[u8], session: Session, k: usize, at: usize, n: usiz
     ensures { refusal_of result ≡ lowest (segment_read_checks session.read session.name (unit_bytes tag.now k) k (at % 4096) n (hosts tag.now)) }
 {
     let unit = layout::unit_of(tag, k);
-    let Decoded::Unit(u) = units::decode(unit) else {
-        return Answer::Refused(Refusal::Malformed);
+    let Some(u) = units::decode(unit) else {
+        return Err(Refusal::Malformed);
     };
     if !u.rd {
-        return Answer::Refused(Refusal::Forbidden);
+        return Err(Refusal::Forbidden);
     }
-    let model = u.model;
-    if hosts::hidden(model, tag, k, at, n) {
-        return Answer::Refused(Refusal::Forbidden);
+    if hosts::hidden(u.model, tag, k, at, n) {
+        return Err(Refusal::Forbidden);
     }
-    if u.rdpin & !(session.read == u.read) {
-        return Answer::Refused(Refusal::OtherPin);
+    if u.rdpin & (session.read != u.read) {
+        return Err(Refusal::OtherPin);
     }
-    let name = session.name;
-    if u.pn & !units::named(unit, &name) {
-        return Answer::Refused(Refusal::OtherName);
+    if u.pn & !units::named(unit, &session.name) {
+        return Err(Refusal::OtherName);
     }
-    Answer::Done
+    Ok(())
 }
 
 // A read of a unit that ends at an offset: with PN set it ends before the name.
-fn judge_unit_read(unit: &[u8], end: usize) -> Answer
-    requires { length unit.now ≡ 32 }
+fn judge_unit_read(unit: &[u8; 32], end: usize) -> Answer
     ensures { refusal_of result ≡ lowest (unit_read_checks unit.now end) }
 {
-    let Decoded::Unit(u) = units::decode(unit) else {
-        return Answer::Refused(Refusal::Malformed);
+    let Some(u) = units::decode(unit) else {
+        return Err(Refusal::Malformed);
     };
     if u.pn & (16 < end) {
-        return Answer::Refused(Refusal::Forbidden);
+        return Err(Refusal::Forbidden);
     }
-    Answer::Done
+    Ok(())
 }
 
 // A read in its place.
 fn judge_read_in(tag: &[u8], session: Session, place: Place, at: usize, n: usize) -> Answer
-    requires { (sound tag.now ≡ true) × (place_of tag.now at n ≡ some place) × (1 ≤ n) }
+    requires { (sound tag.now ≡ true) × (place_of tag.now at n ≡ Some place) × (1 ≤ n) }
     ensures { refusal_of result ≡ lowest (read_checks (state tag.now session) place at n) }
 {
     match place {
-        Place::Header | Place::Readers | Place::Public(_) => Answer::Done,
+        Place::Header | Place::Readers | Place::Public(_) => Ok(()),
         Place::UnitOf(k) => {
             judge_unit_read(layout::unit_of(tag, k), at + n - layout::unit_at(k))
         }
         Place::Segment(k) => judge_segment_read(tag, session, k, at, n),
-        _ => Answer::Refused(Refusal::NeverTaken),
+        _ => Err(Refusal::NeverTaken),
     }
 }
 
@@ -82,11 +76,9 @@ fn judge_read(tag: &[u8], session: Session, at: usize, n: usize, room: usize) ->
     ensures { refusal_of result ≡ refusal E (state tag.now session) (command.read at n room) }
 {
     if (n == 0) | (4096 < n) | (room < n) {
-        return Answer::Refused(Refusal::Count);
+        return Err(Refusal::Count);
     }
-    let Found::In(place) = layout::place_of(tag, at, n) else {
-        return Answer::Refused(Refusal::Outside);
-    };
+    let place = layout::place_of(tag, at, n).ok_or(Refusal::Outside)?;
     judge_read_in(tag, session, place, at, n)
 }
 
@@ -96,15 +88,14 @@ fn read_sound(tag: &[u8], session: Session, at: usize, n: usize, output: &mut [u
     ensures result_value { refusal_of result ≡ refusal E (state tag.now session) (command.read at n (length output.old)) }
     ensures output_after { output.new ≡ read_into E (state tag.now session) at n output.old }
 {
-    let answer = judge_read(tag, session, at, n, output.len());
-    if let Answer::Done = answer {
-        let end = at + n;
-        octets::store(output, &tag[at..end]);
-    }
-    answer
+    judge_read(tag, session, at, n, output.len())?;
+    let end = at + n;
+    octets::store(output, &tag[at..end]);
+    Ok(())
 }
 
-// A read on any bytes whatever. The caller has tested whether the tag is sound.
+// A read on any bytes whatever. The caller has tested whether the tag is sound (`layout::sound` has why a `bool` says so).
+// Each command tests that by itself, in two lines: what they answer differs.
 pub fn read(
     tag: &[u8],
     is_sound: bool,
@@ -118,7 +109,7 @@ pub fn read(
     ensures output_after { output.new ≡ read_into E (state tag.now session) address count output.old }
 {
     if !is_sound {
-        return Answer::Refused(Refusal::Unsound);
+        return Err(Refusal::Unsound);
     }
     read_sound(tag, session, address, count, output)
 }

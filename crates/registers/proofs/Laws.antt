@@ -1,17 +1,15 @@
 -- Laws of the registers: the blocks that are enciphered, the checks by the tests of the code, and what a granted write
 -- leaves. Assumes nothing.
+use Rattle.std.specs.Prelude.{None, Some}
 use Prim.Native.Nat.{ℕ, ◌≤◌, ◌<◌}
 use mathlib.Core.Path.{◌≡◌, refl, sym, ap, ◌∙◌}
+use mathlib.Core.Logic.{◌⊎◌, inl, inr}
 use mathlib.Core.Bool.{Bool, true, false, not, ◌||◌}
-use mathlib.Core.List.{List, [], ◌∷◌, ◌++◌}
-use mathlib.Core.Option.{none, some}
+use mathlib.Core.List.{List, ◌++◌}
 use lib.ListN.{length, set, replicate}
 use lib.Dec.{eqb, leb, ltb}
-use borrow.Author.Tests.{leb-true, leb-false, le-leb, lt-leb, ltb-false, le-ltb, lt-ltb, eq-eqb, ne_eqb, not-false}
+use borrow.Author.Tests.{leb-true, leb-false, le-leb, lt-leb, le-ltb, lt-ltb, eq-eqb, ne_eqb, not-false}
 use borrow.Rule.Slice.PartMut.{mid_of}
-use types.Run.{OneOf, miss}
-use denote.Enum.Declared.{tag_of}
-use Rattle.rules.specs.contracts.Register as the-register
 use Rattle.rules.specs.declared.Session.{Session}
 use Rattle.rules.specs.declared.Register.{Register}
 use Rattle.rules.specs.declared.Register.TheVariants.{Read, Write, Edit, Name, Id, Commit, Pa}
@@ -21,7 +19,7 @@ use Rattle.rules.specs.State.{state, pin_index, owner_index, pin, owner, respons
 use Rattle.rules.specs.Refusals.{◌when◌else◌, granted, lowest, register_checks, block_checks, response_checks, name_checks, commit_checks}
 use Rattle.rules.specs.Effects.{apply, register_stores, register_session, commit_stores}
 use Rattle.rules.proofs.Tests.{passes, or_false, gives, leaves, joined-three, followed, lowest_under}
-use Rattle.octets.proofs.Laws.{part_lent, length_lent, put_whole, block_whole, set_put}
+use Rattle.octets.proofs.Laws.{part_lent, length_lent, put_whole, set_put}
 use Rattle.xxtea.specs.Block.{E}
 use Rattle.registers.specs.Registers.{register_written}
 
@@ -45,7 +43,7 @@ pub within : (a b : ℕ) → a ≤ b → not (leb a b) ≡ false
 within a b h = rw (le-leb a b h)
 
 -- the PIN index, where the flag rule does not refuse
-pub index_within : (t : List ℕ) (i : ℕ) → lowest (name_checks t i) ≡ none → i ≤ 255
+pub index_within : (t : List ℕ) (i : ℕ) → lowest (name_checks t i) ≡ None → i ≤ 255
 unfolding name_checks
 index_within t i e = leb-true i 255 (not-false _ (passes 9 _ _ e).0)
 
@@ -70,7 +68,7 @@ response_parts t i bs = refl
 
 -- COMMIT's PIN index 0 and owner index, by one test of the two
 module _ (t : List ℕ) (i o : ℕ) (g bs : List ℕ) where
-  pub indexes_refuse : (eqb i 0 || ltb 3 o) ≡ true → lowest (commit_checks E t i o g bs) ≡ some 9
+  pub indexes_refuse : (eqb i 0 || ltb 3 o) ≡ true → lowest (commit_checks E t i o g bs) ≡ Some 9
   unfolding commit_checks
   indexes_refuse e =
       joined-three 9 (not (leb i 255)) (eqb i 0) (not (leb o 3)) _
@@ -84,13 +82,10 @@ module _ (t : List ℕ) (i o : ℕ) (g bs : List ℕ) where
       let two = or_false (eqb i 0) (ltb 3 o) e in
       lowest_under 9 (not (leb i 255)) _ _ (λ _. leaves 9 _ _ two.0 ∙ leaves 9 _ _ (sym (past o 3) ∙ two.1))
 
-pub owner_held : (i o : ℕ) → (eqb i 0 || ltb 3 o) ≡ false → o ≤ 3
-owner_held i o e = ltb-false 3 o (or_false (eqb i 0) (ltb 3 o) e).1
-
 -- ---- the checks of a register, by what its bytes and the match on it say
 
 module _ (t : List ℕ) (v : Session) (bs : List ℕ) where
-  pub other_size : (r : Register) → (length bs ≡ 16 → ⊥) → lowest (register_checks E (state t v) r bs) ≡ some 9
+  pub other_size : (r : Register) → (length bs ≡ 16 → ⊥) → lowest (register_checks E (state t v) r bs) ≡ Some 9
   unfolding register_checks
   other_size r h = gives 9 _ _ (ap not (ne_eqb _ _ h))
 
@@ -99,27 +94,17 @@ module _ (t : List ℕ) (v : Session) (bs : List ℕ) where
   unfolding register_checks
   right_size r h = leaves 9 _ _ (ap not (eq-eqb _ _ h))
 
-  pub block_response : (r : Register) → OneOf (0 ∷ 1 ∷ 2 ∷ []) (tag_of the-register.the_type r)
+  pub block_response : (r : Register) → (r ≡ Read) ⊎ ((r ≡ Write) ⊎ (r ≡ Edit))
       → block_checks E (state t v) r bs ≡ response_checks E t (pin_index v) bs
   unfolding block_checks
-  block_response Read o = refl
-  block_response Write o = refl
-  block_response Edit o = refl
-  block_response Name o = absurd (miss (0 ∷ 1 ∷ 2 ∷ []) 3 tt o)
-  block_response Id o = absurd (miss (0 ∷ 1 ∷ 2 ∷ []) 4 tt o)
-  block_response Commit o = absurd (miss (0 ∷ 1 ∷ 2 ∷ []) 5 tt o)
-  block_response Pa o = absurd (miss (0 ∷ 1 ∷ 2 ∷ []) 6 tt o)
+  block_response r (inl e) = rw e
+  block_response r (inr (inl e)) = rw e
+  block_response r (inr (inr e)) = rw e
 
-  pub block_plain : (r : Register) → OneOf (4 ∷ 6 ∷ []) (tag_of the-register.the_type r)
-      → block_checks E (state t v) r bs ≡ granted
+  pub block_plain : (r : Register) → (r ≡ Id) ⊎ (r ≡ Pa) → block_checks E (state t v) r bs ≡ granted
   unfolding block_checks
-  block_plain Read o = absurd (miss (4 ∷ 6 ∷ []) 0 tt o)
-  block_plain Write o = absurd (miss (4 ∷ 6 ∷ []) 1 tt o)
-  block_plain Edit o = absurd (miss (4 ∷ 6 ∷ []) 2 tt o)
-  block_plain Name o = absurd (miss (4 ∷ 6 ∷ []) 3 tt o)
-  block_plain Id o = refl
-  block_plain Commit o = absurd (miss (4 ∷ 6 ∷ []) 5 tt o)
-  block_plain Pa o = refl
+  block_plain r (inl e) = rw e
+  block_plain r (inr e) = rw e
 
 -- ---- the state that a granted write of a register leaves, by the register, the indexes i and j that PA names and the
 -- results of the calls
@@ -147,12 +132,11 @@ module _ (t : List ℕ) (v : Session) (r : Register) (bs : List ℕ) (i : ℕ) (
   unfolding apply register_stores register_session pin_index owner_index
   takes_commit j after e f g = rw (e, g, index, f)
 
-module _ (t : List ℕ) (v : Session) (r : Register) (bs new : List ℕ) (whole : length bs ≡ 16)
-    (copied : new ≡ put 0 bs (replicate 16 0)) where
+module _ (t : List ℕ) (v : Session) (r : Register) (bs new : List ℕ) (copied : new ≡ bs) where
   pub takes_id : r ≡ Id → state t (with_id new v) ≡ register_written (state t v) r bs
   unfolding apply register_stores register_session
-  takes_id e = rw (e, copied, block_whole bs whole)
+  takes_id e = rw (e, copied)
 
   pub takes_pa : r ≡ Pa → state t (with_pa new v) ≡ register_written (state t v) r bs
   unfolding apply register_stores register_session
-  takes_pa e = rw (e, copied, block_whole bs whole)
+  takes_pa e = rw (e, copied)

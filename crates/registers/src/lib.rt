@@ -34,59 +34,54 @@ fn judge_flag(tag: &[u8], pin: usize) -> Answer
     ensures { refusal_of result ≡ lowest (name_checks tag.now pin) }
 {
     if 255 < pin {
-        return Answer::Refused(Refusal::BadRegister);
+        return Err(Refusal::BadRegister);
     }
     if tag[layout::FLAG] == 1 {
-        return Answer::Refused(Refusal::FlagUsed);
+        return Err(Refusal::FlagUsed);
     }
-    Answer::Done
+    Ok(())
 }
 
 // READ, WRITE and EDIT: the 16 bytes must be the counter enciphered by the PIN that PA names.
-fn judge_response(tag: &[u8], pin: usize, data: &[u8]) -> Answer
+fn judge_response(tag: &[u8], pin: usize, data: &[u8; 16]) -> Answer
     requires { readers_at ≤ length tag.now }
     ensures { refusal_of result ≡ lowest (response_checks E tag.now pin «data».now) }
 {
-    let held = judge_flag(tag, pin);
-    if let Answer::Refused(r) = held {
-        return Answer::Refused(r);
-    }
+    judge_flag(tag, pin)?;
     let wanted = response(tag, layout::PINS + 16 * pin);
     if octets::equal(data, &wanted) {
-        Answer::Done
+        Ok(())
     } else {
-        Answer::Refused(Refusal::WrongResponse)
+        Err(Refusal::WrongResponse)
     }
 }
 
 // Whether the guard is that of the 16 bytes by an owner PIN.
-fn guard_fits(tag: &[u8], owner: usize, guard: &[u8], data: &[u8]) -> bool
-    requires { (readers_at ≤ length tag.now) × (owner ≤ 3) × (length «data».now ≡ 16) }
+fn guard_fits(tag: &[u8], owner: usize, guard: &[u8], data: &[u8; 16]) -> bool
+    requires { (readers_at ≤ length tag.now) × (owner ≤ 3) }
     ensures { result ≡ same guard.now (part 4 12 (E (states.owner tag.now owner) «data».now)) }
 {
     let start = layout::OWNERS + 16 * owner;
     let end = start + 16;
     let key = octets::sixteen(&tag[start..end]);
-    let enciphered = xxtea::encipher_block(key, octets::sixteen(data));
+    let enciphered = xxtea::encipher_block(key, *data);
     octets::equal(guard, &enciphered[4..16])
 }
 
-// COMMIT: PIN index 0 and the owner index, then what the others ask too, and the guard.
-fn judge_commit(tag: &[u8], pin: usize, owner: usize, guard: &[u8], data: &[u8]) -> Answer
-    requires { (readers_at ≤ length tag.now) × (length «data».now ≡ 16) }
+// COMMIT: PIN index 0 and the owner index, then what the others ask too, and the guard. It ends as `judge_response` does, with
+// another comparison.
+fn judge_commit(tag: &[u8], pin: usize, owner: usize, guard: &[u8], data: &[u8; 16]) -> Answer
+    requires { readers_at ≤ length tag.now }
     ensures { refusal_of result ≡ lowest (commit_checks E tag.now pin owner guard.now «data».now) }
 {
     if (pin == 0) | (3 < owner) {
-        return Answer::Refused(Refusal::BadRegister);
+        return Err(Refusal::BadRegister);
     }
-    let held = judge_flag(tag, pin);
-    if let Answer::Refused(r) = held {
-        return Answer::Refused(r);
-    }
+    judge_flag(tag, pin)?;
     if guard_fits(tag, owner, guard, data) {
-        Answer::Done
+        Ok(())
     } else {
-        Answer::Refused(Refusal::WrongResponse)
+        Err(Refusal::WrongResponse)
     }
 }
 
@@ -95,33 +90,38 @@ pub fn judge(tag: &[u8], session: Session, register: Register, data: &[u8]) -> A
     requires { readers_at ≤ length tag.now }
     ensures { refusal_of result ≡ lowest (register_checks E (state tag.now session) register «data».now) }
 {
-    if data.len() != 16 {
-        return Answer::Refused(Refusal::BadRegister);
-    }
-    let pa = session.pa;
-    let pin = octets::number16(&pa, 0);
+    let Some(block) = data.as_array() else {
+        return Err(Refusal::BadRegister);
+    };
+    let pin = octets::number16(&session.pa, 0);
     match register {
-        Register::Read | Register::Write | Register::Edit => judge_response(tag, pin, data),
+        Register::Read | Register::Write | Register::Edit => judge_response(tag, pin, block),
         Register::Name => judge_flag(tag, pin),
-        Register::Commit => judge_commit(tag, pin, octets::number16(&pa, 2), &pa[4..16], data),
-        Register::Id | Register::Pa => Answer::Done,
+        Register::Commit => judge_commit(
+            tag,
+            pin,
+            octets::number16(&session.pa, 2),
+            &session.pa[4..16],
+            block,
+        ),
+        Register::Id | Register::Pa => Ok(()),
     }
 }
 
 // The data XOR the counter enciphered by the key at an address.
-fn masked(tag: &[u8], key: usize, data: &[u8]) -> [u8; 16]
-    requires { (16 ≤ length tag.now) × (key + 16 ≤ length tag.now) × (length «data».now ≡ 16) }
+fn masked(tag: &[u8], key: usize, data: &[u8; 16]) -> [u8; 16]
+    requires { (16 ≤ length tag.now) × (key + 16 ≤ length tag.now) }
     ensures { result ≡ xor «data».now (response E (part key 16 tag.now) tag.now) }
 {
     let mask = response(tag, key);
-    let mut bytes = octets::sixteen(data);
+    let mut bytes = *data;
     octets::xor_into(&mut bytes, &mask);
     bytes
 }
 
 // COMMIT: a new PIN.
-fn commit(tag: &mut [u8], pin: usize, owner: usize, data: &[u8])
-    requires { (readers_at ≤ length tag.old) × (pin ≤ 255) × (owner ≤ 3) × (length «data».now ≡ 16) }
+fn commit(tag: &mut [u8], pin: usize, owner: usize, data: &[u8; 16])
+    requires { (readers_at ≤ length tag.old) × (pin ≤ 255) × (owner ≤ 3) }
     ensures { tag.new ≡ apply (commit_stores E tag.old pin owner «data».now) tag.old }
 {
     let new = masked(tag, layout::OWNERS + 16 * owner, data);
@@ -129,13 +129,13 @@ fn commit(tag: &mut [u8], pin: usize, owner: usize, data: &[u8])
     octets::store_at(tag, layout::PINS + 16 * pin, &new);
 }
 
-// A granted write of a register.
+// A granted write of a register. An array is stored in the session from a name of its own: no proof covers it otherwise.
 pub fn take(tag: &mut [u8], session: Session, register: Register, data: &[u8]) -> Session
     requires { Taken tag.old session register «data».now }
     ensures { state tag.new result ≡ register_written (state tag.old session) register «data».now }
 {
-    let pa = session.pa;
-    let pin = octets::number16(&pa, 0);
+    let block = data.as_array().unwrap();
+    let pin = octets::number16(&session.pa, 0);
     let mut next = session;
     match register {
         Register::Read => {
@@ -151,17 +151,17 @@ pub fn take(tag: &mut [u8], session: Session, register: Register, data: &[u8]) -
             next.edit = pin;
         }
         Register::Name => {
-            let name = masked(tag, layout::PINS + 16 * pin, data);
+            let name = masked(tag, layout::PINS + 16 * pin, block);
             tag[layout::FLAG] = 1;
             next.name = name;
         }
         Register::Id => {
-            let id = octets::sixteen(data);
+            let id = *block;
             next.id = id;
         }
-        Register::Commit => commit(tag, pin, octets::number16(&pa, 2), data),
+        Register::Commit => commit(tag, pin, octets::number16(&session.pa, 2), block),
         Register::Pa => {
-            let new = octets::sixteen(data);
+            let new = *block;
             next.pa = new;
         }
     }

@@ -1,11 +1,11 @@
 -- The laws of the text that is printed: a part's replies stand in its buffer as lines, and the texts of the parts, one
 -- behind another, are the text of the whole. Assumes nothing.
+use Rattle.std.specs.Prelude.{None, Option, Some}
 use Prim.Native.Nat.{ℕ, zero, suc, ◌-◌, ◌≤◌, ◌<◌}
 use mathlib.Core.Path.{◌≡◌, refl, sym, ap, ◌∙◌}
 use mathlib.Core.Logic.{◌≢◌}
 use mathlib.Core.Bool.{Bool, true, false, cond}
 use mathlib.Core.List.{List, [], ◌++◌, append-nil}
-use mathlib.Core.Option.{Option, none, some}
 use native.Mathlib.Omega.{arith}
 use lib.ListN.{length, take, drop, length-take, length-drop}
 use lib.Dec.{eqb, leb}
@@ -57,7 +57,7 @@ unfolding carried_out stopped onward
 run_whole s end room h = none_whole
 run_whole s unreadable room h = by (leb 2 room)
   where
-    by : (b : Bool) → WholeReplies (cond b (stopped (some 15) (encoded (refused 15)) s) (stopped (some 16) [] s)).output
+    by : (b : Bool) → WholeReplies (cond b (stopped (Some 15) (encoded (refused 15)) s) (stopped (Some 16) [] s)).output
     by true = readable_whole (refused 15) tt
     by false = none_whole
 run_whole s (c taking n then p) room h =
@@ -67,7 +67,7 @@ run_whole s (c taking n then p) room h =
     rest = carried_out E (after E s c) p (room - length (encoded (reply E s c)))
 
     by : (b : Bool) → WholeReplies rest.output
-        → WholeReplies (cond b (onward n (encoded (reply E s c)) rest) (stopped (some 16) [] s)).output
+        → WholeReplies (cond b (onward n (encoded (reply E s c)) rest) (stopped (Some 16) [] s)).output
     by true w =
         whole_append (encoded (reply E s c)) rest.output (readable_whole (reply E s c) (reply-readable E s c h.0)) w
     by false w = none_whole
@@ -83,7 +83,7 @@ onward_text : (n : ℕ) (bs : List ℕ) (x : Ran) → WholeReplies bs
 unfolding onward
 onward_text n bs x w = lines_append bs x.output w
 
-first_and_rest : (s : State) (log : List ℕ) (room more : ℕ) → (run_log E s log room).stop ≡ some 16 → room ≤ more
+first_and_rest : (s : State) (log : List ℕ) (room more : ℕ) → (run_log E s log room).stop ≡ Some 16 → room ≤ more
     → let x = run_log E s log room in
     text_over s log more
     ≡ text_over s log room ++ text_over x.state (drop x.taken log) (more - length x.output)
@@ -92,12 +92,12 @@ first_and_rest s log room more e h =
     ap (λ r. lines_of r.output) ((runs_continue E s).goes_on log room more e h)
     ∙ onward_text x.taken x.output _ (output_whole s log room)
 
-enough : (s : State) (log : List ℕ) (room more : ℕ) → (run_log E s log room).stop ≢ some 16 → room ≤ more
+enough : (s : State) (log : List ℕ) (room more : ℕ) → (run_log E s log room).stop ≢ Some 16 → room ≤ more
     → text_over s log more ≡ text_over s log room
 enough s log room more e h = ap (λ r. lines_of r.output) ((runs_continue E s).enough log room more e h)
 
 -- two runs that no 16 stops
-same_text : (s : State) (log : List ℕ) (a b : ℕ) → (run_log E s log a).stop ≢ some 16 → (run_log E s log b).stop ≢ some 16
+same_text : (s : State) (log : List ℕ) (a b : ℕ) → (run_log E s log a).stop ≢ Some 16 → (run_log E s log b).stop ≢ Some 16
     → text_over s log a ≡ text_over s log b
 same_text s log a b e f = by (leb a b) refl
   where
@@ -106,7 +106,7 @@ same_text s log a b e f = by (leb a b) refl
     by false g = let h = leb-false a b g in enough s log b a f (omega arith)
 
 -- a run that a 16 stops has less room than one that none does
-less_room : (s : State) (log : List ℕ) (a b : ℕ) → (run_log E s log a).stop ≡ some 16 → (run_log E s log b).stop ≢ some 16
+less_room : (s : State) (log : List ℕ) (a b : ℕ) → (run_log E s log a).stop ≡ Some 16 → (run_log E s log b).stop ≢ Some 16
     → a ≤ b
 less_room s log a b e f = by (leb a b) refl
   where
@@ -121,16 +121,16 @@ unfolding onward
 onward_stop n bs x = refl
 
 -- the rest of a run that no 16 stops
-rest_ends : (s : State) (log : List ℕ) (room more : ℕ) → (run_log E s log room).stop ≡ some 16
-    → (run_log E s log more).stop ≢ some 16
+rest_ends : (s : State) (log : List ℕ) (room more : ℕ) → (run_log E s log room).stop ≡ Some 16
+    → (run_log E s log more).stop ≢ Some 16
     → let x = run_log E s log room in
-    (run_log E x.state (drop x.taken log) (more - length x.output)).stop ≢ some 16
+    (run_log E x.state (drop x.taken log) (more - length x.output)).stop ≢ Some 16
 rest_ends s log room more e f q =
     let g = (runs_continue E s).goes_on log room more e (less_room s log room more e f) in
     f (ap (λ r. r.stop) g ∙ sym (onward_stop _ _ _) ∙ q)
 
 -- and it is shorter
-rest_shorter : (s : State) (log : List ℕ) → (run_log E s log 4096).stop ≡ some 16
+rest_shorter : (s : State) (log : List ℕ) → (run_log E s log 4096).stop ≡ Some 16
     → length (drop (run_log E s log 4096).taken log) < length log
 unfolding run_log
 rest_shorter s log e =
@@ -138,11 +138,11 @@ rest_shorter s log e =
     let w = run_reads E s 0 log 4096 (omega arith) in
     simp length-drop (omega arith)
 
-stop_16 : (o : Option ℕ) → code_of o ≡ 16 → o ≡ some 16
-stop_16 none e = absurd (omega arith)
-stop_16 (some n) e = ap some e
+stop_16 : (o : Option ℕ) → code_of o ≡ 16 → o ≡ Some 16
+stop_16 None e = absurd (omega arith)
+stop_16 (Some n) e = ap Some e
 
-together : (n : ℕ) (s : State) (log : List ℕ) (room : ℕ) → length log < n → (run_log E s log room).stop ≢ some 16
+together : (n : ℕ) (s : State) (log : List ℕ) (room : ℕ) → length log < n → (run_log E s log room).stop ≢ Some 16
     → texts_over n s log ≡ text_over s log room
 unfolding texts_over
 together zero s log room h f = absurd (omega arith)
@@ -153,11 +153,11 @@ together (suc n) s log room h f =
     x = run_log E s log 4096
 
     by : (b : Bool) → eqb (code_of x.stop) 16 ≡ b
-        → ((s : State) (log : List ℕ) (room : ℕ) → length log < n → (run_log E s log room).stop ≢ some 16
+        → ((s : State) (log : List ℕ) (room : ℕ) → length log < n → (run_log E s log room).stop ≢ Some 16
         → texts_over n s log ≡ text_over s log room)
         → text_over s log 4096 ++ cond b (texts_over n x.state (drop x.taken log)) [] ≡ text_over s log room
     by true e later =
-        let full : x.stop ≡ some 16 = stop_16 x.stop (eqb-true (code_of x.stop) 16 e) in
+        let full : x.stop ≡ Some 16 = stop_16 x.stop (eqb-true (code_of x.stop) 16 e) in
         let shorter = rest_shorter s log full in
         ap (λ l. text_over s log 4096 ++ l)
         (later x.state (drop x.taken log) _ (omega arith) (rest_ends s log 4096 room full f))

@@ -1,6 +1,5 @@
 -- The text that is printed: the lines of the replies of each part of a run, one part behind another. Assumes nothing.
-use Rattle.std.specs.Prelude.{ℕ, zero, suc, ◌-◌, ◌≤◌, ◌≡◌, ◌≢◌, cond, List, [], ◌++◌, length, drop, eqb}
-use Rattle.std.proofs.Math.Option.{some}
+use Rattle.std.specs.Prelude.{ℕ, zero, suc, ◌-◌, ◌≤◌, ◌≡◌, ◌≢◌, cond, List, [], ◌++◌, length, drop, eqb, Some}
 use Rattle.rules.specs.Bytes.{part}
 use Rattle.rules.specs.Answers.{code_of}
 use Rattle.rules.specs.State.{State}
@@ -27,11 +26,11 @@ texts_over (suc n) s log =
 -- the text of a run is that of a first part and that of the rest; a run that no 16 stops has the same text with more
 -- room; and the texts of the parts are together that of the whole run, in any room that no 16 stops it in
 pub record TextInParts (s : State) : Type 0 where
-  pub first_and_rest : (log : List ℕ) (room more : ℕ) → (run_log E s log room).stop ≡ some 16 → room ≤ more
+  pub first_and_rest : (log : List ℕ) (room more : ℕ) → (run_log E s log room).stop ≡ Some 16 → room ≤ more
       → let x = run_log E s log room in
       text_over s log more
       ≡ text_over s log room ++ text_over x.state (drop x.taken log) (more - length x.output)
-  pub enough : (log : List ℕ) (room more : ℕ) → (run_log E s log room).stop ≢ some 16 → room ≤ more
+  pub enough : (log : List ℕ) (room more : ℕ) → (run_log E s log room).stop ≢ Some 16 → room ≤ more
       → text_over s log more ≡ text_over s log room
-  pub together : (log : List ℕ) (room : ℕ) → (run_log E s log room).stop ≢ some 16
+  pub together : (log : List ℕ) (room : ℕ) → (run_log E s log room).stop ≢ Some 16
       → texts_over (suc (length log)) s log ≡ text_over s log room

@@ -1,6 +1,5 @@
 -- A run over a whole log that is made in parts, each into a buffer of 4,096 bytes. Assumes nothing.
-use Rattle.std.specs.Prelude.{ℕ, ◌+◌, ◌≤◌, ◌≡◌, Bool, true, false, List, length}
-use Rattle.std.proofs.Math.Option.{Option}
+use Rattle.std.specs.Prelude.{ℕ, ◌+◌, ◌≤◌, ◌≡◌, Bool, true, false, List, length, Option}
 use Rattle.rules.specs.declared.Run.{Run}
 use Rattle.rules.specs.declared.Stop.{Stop}
 use Rattle.rules.specs.declared.Stop.TheVariants.{End, BadCommand, OutputFull}
@@ -8,7 +7,6 @@ use Rattle.rules.specs.Answers.{stop_number}
 use Rattle.rules.specs.State.{State, state}
 use Rattle.rules.specs.Log.{Ran, run_log}
 use Rattle.xxtea.specs.Block.{E}
-use Rattle.replay.specs.declared.running.Replayed.{Replayed}
 
 -- what a run came to, but for the bytes of its replies
 pub record Totals : Type 0 where
@@ -35,9 +33,8 @@ is_full End = false
 is_full BadCommand = false
 is_full OutputFull = true
 
--- the whole of it: where its replies were printed, no 16 stopped it, and it is the rules' run over the log with any room
--- that holds these and a buffer more
-pub record WholeRun (s : State) (log t : List ℕ) (r : Replayed) : Type 0 where
-  pub ended : r.printed ≡ true → is_full r.run.stop ≡ false
-  pub came : r.printed ≡ true → (room : ℕ) → r.run.written + 4096 ≤ room
-      → totals_of r.run t ≡ totals (run_log E s log room)
+-- the whole of it: no 16 stopped it, and it is the rules' run over the log with any room that holds what is written and a
+-- buffer more
+pub record WholeRun (s : State) (log t : List ℕ) (r : Run) : Type 0 where
+  pub ended : is_full r.stop ≡ false
+  pub came : (room : ℕ) → r.written + 4096 ≤ room → totals_of r t ≡ totals (run_log E s log room)

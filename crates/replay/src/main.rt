@@ -4,53 +4,53 @@
 // for a line that begins with `replay: ` on standard error.
 #![tactic(auto)]
 
+mod fault;
 mod input;
 mod keeping;
 mod part;
 mod running;
-mod words;
 
-ghost use Rattle.std.specs.Prelude.{◌≤◌, length};
-
-use input::Input;
+use fault::{Fault, Role};
+use input::argument;
+use rules::Run;
+use running::Report;
 use std::rt::Runtime;
-use words::say;
 
-// Where the replies could not be written, no image is.
-fn run_and_keep(rt: &impl Runtime, image: &mut [u8], log: &[u8], keeps: bool)
-    requires { length log.now ≤ 1048576 }
-{
-    let replayed = running::run_log(rt, image, log);
-    if !replayed.printed {
-        return;
-    }
-    if keeps {
-        keeping::keep_image(rt, image);
-    }
-    let run = replayed.run;
-    running::report(rt, run);
+// What the run came to, and whether the image after it was kept where it was to be. Nothing is written before both files are
+// read; where the replies could not be written, no image is. What is wrong with a name is said where the name is used, and a
+// fourth argument is one too many, whatever it is.
+fn replay(rt: &(impl Runtime + AllocGlobal)) -> Result<(Run, Result<(), Fault>), Fault> {
+    let (Some(image), Some(log), new, None) = (
+        argument(rt, 1, Role::Image),
+        argument(rt, 2, Role::Log),
+        argument(rt, 3, Role::NewImage),
+        argument(rt, 4, Role::NewImage),
+    ) else {
+        return Err(Fault::Usage);
+    };
+    let mut image = input::read_image(rt, image?)?;
+    let log = input::read_log(rt, log?)?;
+    let run = running::run_log(rt, &mut image, &log)?;
+    let kept = match new {
+        Some(Ok(name)) => keeping::keep_image(rt, name, &image),
+        Some(Err(fault)) => Err(fault),
+        None => Ok(()),
+    };
+    Ok((run, kept))
 }
 
-// Nothing is written before both files are read.
-fn replay(rt: &impl Runtime, keeps: bool) {
-    let mut image = [0u8; 65537];
-    let Input::Whole(size) = input::read_image(rt, &mut image) else {
-        return;
-    };
-    let mut log = [0u8; 1048577];
-    let Input::Whole(length) = input::read_log(rt, &mut log) else {
-        return;
-    };
-    run_and_keep(rt, &mut image[..size], &log[..length], keeps);
+fn say(rt: &impl Eprint, fault: &Fault) {
+    let _ = eprintln!(rt; "replay: {fault}");
 }
 
 fn main(rt: HostRuntime) {
-    if !input::is_given(&rt, 2) || input::is_given(&rt, 4) {
-        say(
-            &rt,
-            "replay: it takes IMAGE LOG [NEW]; ./replay says what these are\n",
-        );
-        return;
+    match replay(&rt) {
+        Ok((run, kept)) => {
+            if let Err(fault) = kept {
+                say(&rt, &fault);
+            }
+            let _ = rt.eprintln(Report(run));
+        }
+        Err(fault) => say(&rt, &fault),
     }
-    replay(&rt, input::is_given(&rt, 3));
 }

@@ -6,17 +6,12 @@ ghost use Rattle.replay.specs.Whole.{PartRun};
 
 use rules::{Run, Session};
 
-// What a part came to, and how many characters its text has.
+// What a part came to, and how many characters its text has. It does not lend them as a slice: what `run_as_text` promises
+// is of the buffer after the call, and a buffer that is lent on has no value there.
 #[derive(Clone, Copy)]
 pub struct Part {
     pub run: Run,
     pub characters: usize,
-}
-
-fn reply_buffer() -> [u8; 4096]
-    ensures { 4096 ≡ length result }
-{
-    [0; 4096]
 }
 
 // As much of the log as a buffer has room for the replies of. The text has three characters for each byte of the buffer.
@@ -24,7 +19,7 @@ pub fn run_as_text(image: &mut [u8], session: Session, log: &[u8], text: &mut [u
     ensures part_run { PartRun (state image.old session) log.now image.new result.run }
     ensures part_text { PartText (state image.old session) log.now text.new result.characters }
 {
-    let mut replies = reply_buffer();
+    let mut replies = [0; 4096];
     let run = tag::run(image, session, log, &mut replies);
     let n = run.written;
     let characters = reply_lines::lines(&replies[..n], text);

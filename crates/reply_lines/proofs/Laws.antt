@@ -94,13 +94,11 @@ mark_none (suc left) (suc after) e h = refl
 -- ---- the walk: the first i bytes of the replies are stored up to `at`, and what is left leads to the result
 
 pub record Printed (replies old text : List ℕ) (at left i : ℕ) : Type 0 where
-  pub inside : i ≤ length replies
-  pub size : length text ≡ length old
   pub leads : (new : List ℕ) (to : ℕ) → Stored at (lines_in left (drop i replies)) text new to
       → Stored 0 (lines_of replies) old new to
 
 pub print_first : (replies old : List ℕ) → Printed replies old old 0 0 0
-print_first replies old = record { inside = omega arith; size = refl; leads = λ new to s. s }
+print_first replies old = record { leads = λ new to s. s }
 
 begun : (left b : ℕ) (bs : List ℕ)
     → lines_in left (b ∷ bs) ≡ text_of left (left_behind left b) b ++ lines_in (left_behind left b) bs
@@ -113,11 +111,7 @@ pub print_next : (replies old text new : List ℕ) (at left i after to : ℕ) �
     → Stored at (text_of left after (get_or replies i 0)) text new to
     → Printed replies old text at left i → Printed replies old new to after (i + 1)
 print_next replies old text new at left i after to h a s p =
-    record {
-      inside = omega arith;
-      size = ap length s.stored ∙ length-put at _ text ∙ p.size;
-      leads = λ last end q. p.leads last end (rw one (stored_both at to end _ _ text new last s q));
-    }
+    record { leads = λ last end q. p.leads last end (rw one (stored_both at to end _ _ text new last s q)) }
   where
     one : lines_in left (drop i replies) ≡ text_of left after (get_or replies i 0) ++ lines_in after (drop (i + 1) replies)
     one = rw (add-one, a, drop-cons replies i 0 h) (begun left (get_or replies i 0) (drop (suc i) replies))

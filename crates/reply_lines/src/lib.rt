@@ -6,6 +6,7 @@ ghost use Rattle.rules.specs.Bytes.{part, put};
 ghost use Rattle.rules.specs.Log.{data_length};
 ghost use Rattle.reply_lines.specs.Lines.{Stored, digit_of, left_behind, lines_of, mark_of, pair_of, text_of};
 
+// A hexadecimal digit, a capital: std's `from_digit` gives small ones.
 fn digit(n: u8) -> u8
     requires { n < 16 }
     ensures { result ≡ digit_of n }
@@ -17,13 +18,11 @@ fn digit(n: u8) -> u8
 fn data_length(code: u8) -> usize
     ensures { result ≡ data_length code }
 {
-    if code == 0x51 {
-        return 1;
+    match code {
+        0x51 => 1,
+        0..0x40 => 0,
+        _ => command_log::count_of(code - 0x40),
     }
-    if code < 0x40 {
-        return 0;
-    }
-    command_log::count_of(code - 0x40)
 }
 
 // How many bytes still belong to the reply behind this one.
@@ -38,6 +37,7 @@ fn left_behind(left: usize, byte: u8) -> usize
 }
 
 // Where the text is full, nothing is stored.
+// (By `get_mut`, or with text and place as a struct, the proof did not close: no proof may cite what is lent behind them.)
 fn put_character(text: &mut [u8], at: usize, character: u8) -> usize
     ensures { Stored at (character ∷ []) text.old text.new result }
 {
@@ -59,13 +59,11 @@ fn put_pair(text: &mut [u8], at: usize, byte: u8) -> usize
 fn put_mark(text: &mut [u8], at: usize, left: usize, after: usize) -> usize
     ensures { Stored at (mark_of left after) text.old text.new result }
 {
-    if after == 0 {
-        return put_character(text, at, b'\n');
+    match (left, after) {
+        (_, 0) => put_character(text, at, b'\n'),
+        (0, _) => put_character(text, at, b' '),
+        _ => at,
     }
-    if left == 0 {
-        return put_character(text, at, b' ');
-    }
-    at
 }
 
 fn put_byte(text: &mut [u8], at: usize, left: usize, after: usize, byte: u8) -> usize
@@ -83,13 +81,10 @@ pub fn lines(replies: &[u8], text: &mut [u8]) -> usize
 {
     let mut at = 0;
     let mut left = 0;
-    let mut i = 0;
-    while i < replies.len() {
-        let byte = replies[i];
+    for &byte in replies {
         let after = left_behind(left, byte);
         at = put_byte(text, at, left, after, byte);
         left = after;
-        i += 1;
     }
     at
 }

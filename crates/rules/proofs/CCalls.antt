@@ -1,17 +1,15 @@
 -- What is claimed of calls from C: 54 bytes hold a session, its indexes stay in two bytes, and a call from C is a call.
 -- Assumes nothing.
+use Rattle.std.specs.Prelude.{None, Option, Some, Ok, Err}
 use Prim.Native.Nat.{ℕ, zero, suc, ◌+◌, ◌-◌, ◌*◌, ◌/◌, ◌%◌, ◌≤◌, ◌<◌}
 use mathlib.Core.Path.{◌≡◌, refl, sym, ap, ◌∙◌}
 use mathlib.Core.Bool.{Bool, true, false, cond, not}
 use mathlib.Core.List.{List, [], ◌∷◌, ◌++◌, flatten}
-use mathlib.Core.Option.{Option, none, some}
 use native.Mathlib.Omega.{arith}
 use lib.ListN.{length, drop, take-append-drop, drop_of_length-le}
 use lib.Seq.{drop-drop}
 use lib.Dec.{eqb, leb}
 use borrow.Author.Tests.{eqb-true, leb-true, not-false}
-use Rattle.rules.specs.declared.Answer.{Answer}
-use Rattle.rules.specs.declared.Answer.TheVariants.{Done, Refused}
 use Rattle.rules.specs.declared.Session.{Session}
 use Rattle.rules.specs.declared.Register.{Register}
 use Rattle.rules.specs.declared.Register.TheVariants.{Write, Read, Edit, Name, Id, Commit, Pa}
@@ -21,7 +19,7 @@ use Rattle.rules.specs.declared.Stop.{Stop}
 use Rattle.rules.specs.declared.Stop.TheVariants.{End, BadCommand, OutputFull}
 use Rattle.rules.specs.Bytes.{byte, part, number, number_from, bytes_of}
 use Rattle.rules.specs.State.{Cipher, State, powered_up, with_read, with_write, with_edit, with_name, with_id, with_pa}
-use Rattle.rules.specs.Answers.{refusal_of, stop_number, code_of}
+use Rattle.rules.specs.Answers.{Answer, refusal_of, stop_number, code_of}
 use Rattle.rules.specs.Refusals.{Checks, ◌when◌else◌, lowest, register_checks, block_checks, response_checks, write_checks}
 use Rattle.rules.specs.Effects.{register_session, write_session}
 use Rattle.rules.specs.Command.{Command, read, write, advance, insert, power_up, refused, refusal, reply, after, after_by, new_session, session_in}
@@ -141,15 +139,15 @@ nothing_lost = record { session_back = session_back; bytes_back = bytes_back; by
 
 -- ---- a session that fits stays one
 
-sixteen : (n : ℕ) (cs : Checks) (bs : List ℕ) → lowest (n when not (eqb (length bs) 16) else cs) ≡ none
+sixteen : (n : ℕ) (cs : Checks) (bs : List ℕ) → lowest (n when not (eqb (length bs) 16) else cs) ≡ None
     → length bs ≡ 16
 sixteen n cs bs e = eqb-true _ _ (not-false _ (passes _ _ _ e).0)
 
-response_index : (E : Cipher) (t : List ℕ) (i : ℕ) (bs : List ℕ) → lowest (response_checks E t i bs) ≡ none → i < 65536
+response_index : (E : Cipher) (t : List ℕ) (i : ℕ) (bs : List ℕ) → lowest (response_checks E t i bs) ≡ None → i < 65536
 unfolding response_checks
 response_index E t i bs e = let l = leb-true i 255 (not-false _ (passes _ _ _ e).0) in omega arith
 
-register_fits : (E : Cipher) (s : State) (r : Register) (bs : List ℕ) → lowest (register_checks E s r bs) ≡ none
+register_fits : (E : Cipher) (s : State) (r : Register) (bs : List ℕ) → lowest (register_checks E s r bs) ≡ None
     → Fits s.session → Fits (register_session E s r bs)
 unfolding register_checks block_checks register_session with_read with_write with_edit with_name with_id with_pa
 register_fits E s Read bs e h =
@@ -166,7 +164,7 @@ register_fits E s Commit bs e h = h
 register_fits E s Pa bs e h =
     fit _ h.read_index h.write_index h.edit_index h.name_size h.id_size (sixteen 9 _ bs e)
 
-write_fits : (E : Cipher) (s : State) (p : Place) (a : ℕ) (bs : List ℕ) → lowest (write_checks E s p a bs) ≡ none
+write_fits : (E : Cipher) (s : State) (p : Place) (a : ℕ) (bs : List ℕ) → lowest (write_checks E s p a bs) ≡ None
     → Fits s.session → Fits (write_session E s p bs)
 unfolding write_checks write_session
 write_fits E s Header a bs e h = h
@@ -179,7 +177,7 @@ write_fits E s Spare a bs e h = h
 write_fits E s (Segment k) a bs e h = h
 write_fits E s (Public k) a bs e h = h
 
-granted_fits : (E : Cipher) (s : State) (c : Command) → refusal E s c ≡ none → Fits s.session
+granted_fits : (E : Cipher) (s : State) (c : Command) → refusal E s c ≡ None → Fits s.session
     → Fits (new_session E s c)
 unfolding new_session session_in powered_up
 granted_fits E s (read a n room) e h = h
@@ -194,8 +192,8 @@ unfolding after after_by
 command_fits E s h c = by (refusal E s c) refl
   where
     by : (r : Option ℕ) → refusal E s c ≡ r → Fits (after_by r E s c).session
-    by none e = granted_fits E s c e h
-    by (some n) e = h
+    by None e = granted_fits E s c e h
+    by (Some n) e = h
 
 run_fits : (E : Cipher) (s : State) (p : Parsed) (room : ℕ) → Fits s.session
     → Fits (carried_out E s p room).state.session
@@ -204,7 +202,7 @@ run_fits E s end room h = h
 run_fits E s unreadable room h = by (leb 2 room)
   where
     by : (b : Bool)
-        → Fits (cond b (stopped (some 15) (encoded (refused 15)) s) (stopped (some 16) [] s)).state.session
+        → Fits (cond b (stopped (Some 15) (encoded (refused 15)) s) (stopped (Some 16) [] s)).state.session
     by true = h
     by false = h
 run_fits E s (c taking n then p) room h =
@@ -214,7 +212,7 @@ run_fits E s (c taking n then p) room h =
     rest = carried_out E (after E s c) p (room - length (encoded (reply E s c)))
 
     by : (b : Bool) → Fits rest.state.session
-        → Fits (cond b (onward n (encoded (reply E s c)) rest) (stopped (some 16) [] s)).state.session
+        → Fits (cond b (onward n (encoded (reply E s c)) rest) (stopped (Some 16) [] s)).state.session
     by true g = g
     by false g = h
 
@@ -233,13 +231,13 @@ called_is_call E s c n t b h = by (refusal E s c) refl
   where
     by : (r : Option ℕ) → refusal E s c ≡ r
         → (a : Answer) × (code_of (refusal_of a) ≡ n) × CarriedOut E s c t (outcome a (session_of b))
-    by none e =
-        (Done, sym (h.answered ∙ ap code_of e), record { answered = sym e; left = h.left })
-    by (some m) e =
+    by None e =
+        ((Ok tt), sym (h.answered ∙ ap code_of e), record { answered = sym e; left = h.left })
+    by (Some m) e =
         let x = refusal_named E s c m e in (
-          Refused x.refusal_case,
+          Err x.refusal_case,
           x.its_number ∙ sym (h.answered ∙ ap code_of e),
-          record { answered = ap some x.its_number ∙ sym e; left = h.left },
+          record { answered = ap Some x.its_number ∙ sym e; left = h.left },
         )
 
 -- a run ends, or stops with 15 or 16
@@ -249,7 +247,7 @@ stop_named E s end room = (End, refl)
 stop_named E s unreadable room = by (leb 2 room)
   where
     by : (b : Bool)
-        → (q : Stop) × ((cond b (stopped (some 15) (encoded (refused 15)) s) (stopped (some 16) [] s)).stop ≡ stop_number q)
+        → (q : Stop) × ((cond b (stopped (Some 15) (encoded (refused 15)) s) (stopped (Some 16) [] s)).stop ≡ stop_number q)
     by true = (BadCommand, refl)
     by false = (OutputFull, refl)
 stop_named E s (c taking n then p) room =
@@ -259,7 +257,7 @@ stop_named E s (c taking n then p) room =
     rest = carried_out E (after E s c) p (room - length (encoded (reply E s c)))
 
     by : (b : Bool) → (q : Stop) × (rest.stop ≡ stop_number q)
-        → (q : Stop) × ((cond b (onward n (encoded (reply E s c)) rest) (stopped (some 16) [] s)).stop ≡ stop_number q)
+        → (q : Stop) × ((cond b (onward n (encoded (reply E s c)) rest) (stopped (Some 16) [] s)).stop ≡ stop_number q)
     by true x = x
     by false x = (OutputFull, refl)
 

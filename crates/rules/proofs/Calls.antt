@@ -1,19 +1,17 @@
 -- What is claimed of calls follows from their contracts and from what is proved of the rules. Assumes nothing.
+use Rattle.std.specs.Prelude.{None, Some, Ok, Err}
 use Prim.Native.Nat.{ℕ}
 use mathlib.Core.Path.{◌≡◌, refl, sym, ap, ap₂, subst, ◌∙◌}
 use mathlib.Core.Logic.{◌≢◌, ◌⊎◌, inl, inr}
 use mathlib.Core.Bool.{true}
 use mathlib.Core.List.{List, [], ◌∷◌, ◌++◌}
-use mathlib.Core.Option.{none, some}
 use native.Mathlib.Omega.{arith}
 use lib.ListN.{length}
-use Rattle.rules.specs.declared.Answer.{Answer}
-use Rattle.rules.specs.declared.Answer.TheVariants.{Done, Refused}
 use Rattle.rules.specs.declared.Refusal.TheVariants.{WrongResponse}
 use Rattle.rules.specs.Bytes.{part, put}
 use Rattle.rules.specs.Map.{sound, flag_at}
 use Rattle.rules.specs.State.{Cipher, State, state, powered_up}
-use Rattle.rules.specs.Answers.{refusal_of, number_of}
+use Rattle.rules.specs.Answers.{Answer, refusal_of, number_of}
 use Rattle.rules.specs.Refusals.{lowest}
 use Rattle.rules.specs.Effects.{apply, refusal_stores}
 use Rattle.rules.specs.Command.{Command, Reply, stores, new_session, done, gives, read, write, advance, insert, power_up, checks, refusal, grant, reply, reply_by, after, after_by, filled}
@@ -33,7 +31,7 @@ module _ (E : Cipher) where
   unfolding after after_by
   refused_leaves s c t o r h e =
       let n = sym h.answered ∙ ap refusal_of e in
-      let l : state t o.session ≡ after_by (some (number_of r)) E s c = rw n at h.left in
+      let l : state t o.session ≡ after_by (Some (number_of r)) E s c = rw n at h.left in
       record {
         same_session = ap (λ x. x.session) l;
         same_tag = λ q. ap (λ x. x.tag) l ∙ by q (eleven_or_none r);
@@ -56,11 +54,11 @@ module _ (E : Cipher) where
 
   pub replied : (s : State) (c : Command) (a : Answer) → refusal_of a ≡ refusal E s c → reply_of a (grant s c) ≡ reply E s c
   unfolding reply reply_by
-  replied s c Done e = rw (← e)
-  replied s c (Refused r) e = rw (← e)
+  replied s c (Ok tt) e = rw (← e)
+  replied s c (Err r) e = rw (← e)
 
   -- the bytes of a granted read are those at the start of its output
-  read_back : (s : State) (a n : ℕ) (out : List ℕ) → refusal E s (read a n (length out)) ≡ none
+  read_back : (s : State) (a n : ℕ) (out : List ℕ) → refusal E s (read a n (length out)) ≡ None
       → part 0 n (put 0 (part a n s.tag) out) ≡ part a n s.tag
   read_back s a n out e =
       let g = granted_read E s a n (length out) e in
@@ -73,10 +71,10 @@ module _ (E : Cipher) where
       → left ≡ filled (reply E s (read a n (length out))) out
       → reply_of q (gives (part 0 n left)) ≡ reply E s (read a n (length out))
   unfolding reply reply_by filled grant
-  read_replied s a n out left Done e f =
+  read_replied s a n out left (Ok tt) e f =
       let g : left ≡ put 0 (part a n s.tag) out = rw (← e) at f in
       rw (← e, g) (ap gives (read_back s a n out (sym e)))
-  read_replied s a n out left (Refused r) e f = rw (← e)
+  read_replied s a n out left (Err r) e f = rw (← e)
 
   pub powered : (s : State) → (done ≡ reply E s power_up) × (state s.tag powered_up ≡ after E s power_up)
   unfolding refusal checks lowest reply reply_by grant after after_by stores new_session apply

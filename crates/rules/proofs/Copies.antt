@@ -1,11 +1,11 @@
 -- Demand 3, second part: copies of granted slot writes are refused and change nothing.
+use Rattle.std.specs.Prelude.{None, Option, Some}
 use Prim.Native.Nat.{ℕ, ◌≤◌, ◌<◌}
 use mathlib.Core.Path.{◌≡◌, refl, ap, ◌∙◌}
 use mathlib.Core.Logic.{◌⊎◌, inl, inr}
 use mathlib.Core.Bool.{true}
 use mathlib.Core.List.Memᴰ
 use mathlib.Core.List.{List, [], ◌∷◌, Memᴰ}
-use mathlib.Core.Option.{Option, none, some}
 use native.Mathlib.Omega.{arith}
 use lib.ListN.{length}
 use Rattle.rules.specs.declared.Place.TheVariants.{Segment}
@@ -39,7 +39,7 @@ spent_stays E s d c w (spent k j bs e lc l n h) =
 -- a granted write to a slot is spent
 spent_made : (E : Cipher) (s : State) (k j : ℕ) (bs : List ℕ) → sound s.tag ≡ true → LockedCounter s.tag k
     → j < 512
-    → length bs ≡ 8 → refusal E s (write (slot s.tag k j) bs) ≡ none
+    → length bs ≡ 8 → refusal E s (write (slot s.tag k j) bs) ≡ None
     → Spent (after E s (write (slot s.tag k j) bs)) (write (slot s.tag k j) bs)
 spent_made E s k j bs w lc l n e =
     let c = write (slot s.tag k j) bs in
@@ -57,8 +57,8 @@ spent_refused E s c w (spent k j bs e lc l n h) = rw e (by (refusal E s (write (
 
     by : (r : Option ℕ) → refusal E s (write (slot s.tag k j) bs) ≡ r
         → (n : ℕ) × (reply E s (write (slot s.tag k j) bs) ≡ refused n) × (after E s (write (slot s.tag k j) bs) ≡ s)
-    by none f = let v = next_value E s k w lc.counter j bs l n f in absurd (omega arith)
-    by (some m) f = (
+    by None f = let v = next_value E s k w lc.counter j bs l n f in absurd (omega arith)
+    by (Some m) f = (
       m,
       refused_reply E s (write (slot s.tag k j) bs) m f,
       refused_stays E s (write (slot s.tag k j) bs) m f
@@ -75,7 +75,7 @@ record Reached (t : List ℕ) (s : State) (before : List Command) : Type 0 where
   all_spent : (c : Command) → Memᴰ c before → WritesLockedSlot t c → Spent s c
 
 granted_spent : (E : Cipher) (t : List ℕ) (s : State) (before : List Command) → Reached t s before → (c : Command)
-    → WritesLockedSlot t c → refusal E s c ≡ none → Spent (after E s c) c
+    → WritesLockedSlot t c → refusal E s c ≡ None → Spent (after E s c) c
 granted_spent E t s before r c (writes_slot k j bs lc l n) e =
     rw (← r.same_segments) (spent_made E s k j bs r.whole (r.still_locked k lc) l n (rw r.same_segments e))
 
@@ -84,8 +84,8 @@ with_granted_lem : (E : Cipher) (t : List ℕ) (s : State) (before : List Comman
     → refusal E s d ≡ r → (c : Command) → Memᴰ c (with_granted (reply_by r s d) d before) → WritesLockedSlot t c
     → Spent (after E s d) c
 unfolding with_granted reply_by
-with_granted_lem E t s before q d (some n) e c m h = spent_stays E s d c q.whole (q.all_spent c m h)
-with_granted_lem E t s before q d none e c m h = by (grant s d) m
+with_granted_lem E t s before q d (Some n) e c m h = spent_stays E s d c q.whole (q.all_spent c m h)
+with_granted_lem E t s before q d None e c m h = by (grant s d) m
   where
     choose : (c ≡ d) ⊎ Memᴰ c before → Spent (after E s d) c
     choose (inl f) = rw f (granted_spent E t s before q d (rw f at h) e)

@@ -1,10 +1,10 @@
 -- Demand 3, third part: two neighbours change places.
+use Rattle.std.specs.Prelude.{None, Option, Some}
 use Prim.Native.Nat.{ℕ, ◌+◌, ◌≤◌, ◌<◌}
 use mathlib.Core.Path.{◌≡◌, refl, sym, ap, subst, ◌∙◌}
 use mathlib.Core.Logic.{◌≢◌}
 use mathlib.Core.Bool.{true}
 use mathlib.Core.List.{List, [], ◌∷◌, ◌++◌}
-use mathlib.Core.Option.{Option, none, some}
 use native.Mathlib.Omega.{arith}
 use lib.ListN.{length}
 use borrow.Author.Tests.{eqb-false}
@@ -60,7 +60,7 @@ module _ (E : Cipher) (v : Session) (t u : List ℕ) (k a n : ℕ) (p : Place) (
   abbrev two : State
   two = record { tag = u; session = v }
 
-  found : 1 ≤ n → (place_of t a n ≡ some p) × (place_of u a n ≡ some p)
+  found : 1 ≤ n → (place_of t a n ≡ Some p) × (place_of u a n ≡ Some p)
   unfolding place_of
   found b =
       let f = place_found t p a n (sound-facts t l.whole).most_segments b h in
@@ -99,9 +99,9 @@ module _ (E : Cipher) (v : Session) (t u : List ℕ) (k a n : ℕ) (p : Place) (
 
   made_by_lem : (c : Command) (o : Option ℕ) → refusal E one c ≡ o → Ranged a n c → made_by o E two c ≡ made_by o E one c
   unfolding made_by stores stores_in
-  made_by_lem c (some m) e r = refl
-  made_by_lem c none e (a_read room) = refl
-  made_by_lem c none e (a_write bs q) =
+  made_by_lem c (Some m) e r = refl
+  made_by_lem c None e (a_read room) = refl
+  made_by_lem c None e (a_write bs q) =
       let f = found (rw q at (granted_write E one a bs e).long) in
       rw (q, f.0, f.1) (write_same p refl num bs q).1
 
@@ -110,9 +110,9 @@ module _ (E : Cipher) (v : Session) (t u : List ℕ) (k a n : ℕ) (p : Place) (
 
   reply-by : (o : Option ℕ) (c : Command) → Ranged a n c → reply_by o two c ≡ reply_by o one c
   unfolding reply_by grant
-  reply-by (some m) c r = refl
-  reply-by none c (a_read room) = rw l.same_part
-  reply-by none c (a_write bs q) = refl
+  reply-by (Some m) c r = refl
+  reply-by None c (a_read room) = rw l.same_part
+  reply-by None c (a_write bs q) = refl
 
   reply_same : (c : Command) → Ranged a n c → reply E two c ≡ reply E one c
   unfolding reply

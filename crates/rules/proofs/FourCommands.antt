@@ -1,9 +1,9 @@
 -- A host that knows the PIN reads after four commands: PA, counter, READ, read. What each of them leaves.
+use Rattle.std.specs.Prelude.{None, Some}
 use Prim.Native.Nat.{ℕ, ◌+◌, ◌≤◌}
 use mathlib.Core.Path.{◌≡◌, refl, sym, ap, ◌∙◌}
 use mathlib.Core.Bool.{true, false, not}
 use mathlib.Core.List.{List, [], ◌∷◌, ◌++◌}
-use mathlib.Core.Option.{none, some}
 use native.Mathlib.Omega.{arith}
 use lib.ListN.{length, replicate, length-append}
 use borrow.Author.Tests.{leb-true, eq-eqb, le-leb}
@@ -34,11 +34,11 @@ use Rattle.rules.proofs.GrantedRead.{rights, segment_read}
 -- ---- a write that no check refuses
 
 module _ (E : Cipher) (s : State) (p : Place) (a : ℕ) (bs : List ℕ) (w : sound s.tag ≡ true) (l : 1 ≤ length bs)
-    (m : length bs ≤ 4096) (h : Holds s.tag p a (length bs)) (e : lowest (write_checks E s p a bs) ≡ none) where
-  found : place_of s.tag a (length bs) ≡ some p
+    (m : length bs ≤ 4096) (h : Holds s.tag p a (length bs)) (e : lowest (write_checks E s p a bs) ≡ None) where
+  found : place_of s.tag a (length bs) ≡ Some p
   found = place_found s.tag p a (length bs) (sound-facts s.tag w).most_segments l h
 
-  free : refusal E s (write a bs) ≡ none
+  free : refusal E s (write a bs) ≡ None
   free = judged_there E s p a bs w l m h ∙ e
 
   write_done : (reply E s (write a bs) ≡ done)
@@ -87,7 +87,7 @@ read_validated E s bs i w l f q m e =
     right : same bs (response E (pin s.tag (pin_index s.session)) s.tag) ≡ true
     right = rw (q, ← e) (same_refl bs)
 
-    passed : lowest (write_checks E s (RegisterOf Read) (register_at 0) bs) ≡ none
+    passed : lowest (write_checks E s (RegisterOf Read) (register_at 0) bs) ≡ None
     passed =
         unfold write_checks register_checks block_checks response_checks in
         clears _ _ _ (ap not (eq-eqb _ _ l)) (clears _ _ _ (ap not (le-leb (pin_index s.session) 255 (rw q m)))

@@ -1,9 +1,9 @@
 -- Laws of the host list, and of what an insertion stores.
+use Rattle.std.specs.Prelude.{None}
 use Prim.Native.Nat.{ℕ, ◌-◌, ◌≤◌, ◌<◌}
 use mathlib.Core.Path.{◌≡◌, refl, sym}
 use mathlib.Core.Bool.{Bool, true, false, not}
 use mathlib.Core.List.{List, [], ◌∷◌, ◌++◌}
-use mathlib.Core.Option.{none}
 use native.Mathlib.Omega.{arith}
 use lib.ListN.{length, replicate, length-append, length-replicate}
 use borrow.Author.Tests.{leb-true, ltb-true, eqb-true, not-false}
@@ -121,7 +121,7 @@ inserting t k id h e f g =
     not_true false f = refl
 
 -- what the tests of a granted insertion say
-pub insert_free : (i : ℕ) (name t : List ℕ) (k : ℕ) (id : List ℕ) → lowest (insert_checks i name t k id) ≡ none
+pub insert_free : (i : ℕ) (name t : List ℕ) (k : ℕ) (id : List ℕ) → lowest (insert_checks i name t k id) ≡ None
     → (well_formed (unit_bytes t k) ≡ true) × (is_filling (unit_of (unit_bytes t k)).model ≡ true)
     × (list_refuses t k id (hosts t) ≡ false)
 unfolding insert_checks
@@ -132,7 +132,7 @@ insert_free i name t k id e =
     let c14 = passes _ _ _ c8.1 in
     (not-false _ c5.0, not-false _ c14.0, (passes _ _ _ c14.1).0)
 
-pub insert_facts : (E : Cipher) (s : State) (k : ℕ) (id : List ℕ) → refusal E s (insert k id) ≡ none
+pub insert_facts : (E : Cipher) (s : State) (k : ℕ) (id : List ℕ) → refusal E s (insert k id) ≡ None
     → Inserting s.tag k id
 unfolding refusal checks
 insert_facts E s k id e =

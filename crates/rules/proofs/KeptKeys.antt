@@ -1,10 +1,10 @@
 -- The slots of a pair of hosts stay as their insertion left them, and may be read, whatever commands follow.
+use Rattle.std.specs.Prelude.{None, Option, Some}
 use Prim.Native.Nat.{ℕ, ◌+◌, ◌-◌, ◌*◌, ◌<◌}
 use mathlib.Core.Path.{◌≡◌, refl, sym, ap, subst, ◌∙◌}
 use mathlib.Core.Logic.{◌≢◌, ◌⊎◌, inl, inr}
 use mathlib.Core.Bool.{Bool, true, false, ◌&&◌}
 use mathlib.Core.List.{List, [], ◌∷◌}
-use mathlib.Core.Option.{Option, none, some}
 use native.Mathlib.Omega.{arith}
 use native.Mathlib.Decide.{ℕ_discrete}
 use lib.ListN.{length}
@@ -72,13 +72,13 @@ module _ (E : Cipher) (s : State) (l p j : ℕ) (w : sound s.tag ≡ true) (u : 
   abbrev Spares : List Store → Type 0
   Spares ss = Each (Off (unit_at l) 32) ss × Each (Off at_slot 48) ss
 
-  write_closed : (a : ℕ) (bs : List ℕ) → lowest (write_checks E s (Segment l) a bs) ≡ none → ⊥
+  write_closed : (a : ℕ) (bs : List ℕ) → lowest (write_checks E s (Segment l) a bs) ≡ None → ⊥
   unfolding write_checks segment_write_checks
   write_closed a bs e =
       let x = (passes _ _ _ (passes _ _ _ e).1).0 in
       true_false (sym (not-false _ x) ∙ inserted_closed (unit_bytes t l) u.formed u.stage)
 
-  edit_closed : (a : ℕ) (bs : List ℕ) → lowest (write_checks E s (UnitOf l) a bs) ≡ none → ⊥
+  edit_closed : (a : ℕ) (bs : List ℕ) → lowest (write_checks E s (UnitOf l) a bs) ≡ None → ⊥
   unfolding write_checks edit_checks
   edit_closed a bs e =
       let x5 = passes _ _ _ e in
@@ -86,9 +86,9 @@ module _ (E : Cipher) (s : State) (l p j : ℕ) (w : sound s.tag ≡ true) (u : 
       let x7 = passes _ _ _ x6.1 in
       true_false (sym (row_listed t l p j u) ∙ (passes _ _ _ x7.1).0)
 
-  write_spares : (a : ℕ) (bs : List ℕ) (q : Place) → Holds t q a (length bs) → lowest (write_checks E s q a bs) ≡ none
+  write_spares : (a : ℕ) (bs : List ℕ) (q : Place) → Holds t q a (length bs) → lowest (write_checks E s q a bs) ≡ None
       → (q ≡ Segment l) ⊎ (q ≢ Segment l) → Spares (write_stores E s q a bs)
-  write_spares a bs q h e (inl d) = absurd (write_closed a bs (subst (λ r. lowest (write_checks E s r a bs) ≡ none) d e))
+  write_spares a bs q h e (inl d) = absurd (write_closed a bs (subst (λ r. lowest (write_checks E s r a bs) ≡ None) d e))
   write_spares a bs q h e (inr d) =
       let g = (sound_long t w).0 in
       let there = u.there in
@@ -96,7 +96,7 @@ module _ (E : Cipher) (s : State) (l p j : ℕ) (w : sound s.tag ≡ true) (u : 
       let m = u.slot_listed in (
         write_off E s q a bs (unit_at l) 32 w h e (omega arith)
             (places_apart t q (UnitOf l) a (length bs) (unit_at l) 32 w h (unit_holds t l there)
-            (λ f. edit_closed a bs (subst (λ r. lowest (write_checks E s r a bs) ≡ none) f e)))
+            (λ f. edit_closed a bs (subst (λ r. lowest (write_checks E s r a bs) ≡ None) f e)))
             (λ i f b. let z : i ≢ l = λ o. d (f ∙ ap Segment o) in omega arith),
         write_off E s q a bs at_slot 48 w h e (omega arith)
             (places_apart t q (Segment l) a (length bs) at_slot 48 w h
@@ -136,19 +136,19 @@ module _ (E : Cipher) (s : State) (l p j : ℕ) (w : sound s.tag ≡ true) (u : 
 
   spares : (c : Command) (r : Option ℕ) → refusal E s c ≡ r → Spares (made_by r E s c)
   unfolding made_by stores
-  spares c (some n) e =
+  spares c (Some n) e =
       let g = (sound_long t w).0 in
       let there = u.there in
       (refusal_off n (unit_at l) 32 (omega arith), refusal_off n at_slot 48 (omega arith))
-  spares (read a n room) none e = (tt, tt)
-  spares (write a bs) none e =
+  spares (read a n room) None e = (tt, tt)
+  spares (write a bs) None e =
       let g = granted_write E s a bs e in
       subst Spares (sym (stores_write E s a bs g.place g.found))
       (write_spares a bs g.place (place_holds t g.place a (length bs) g.found) g.free (at_segment l g.place))
-  spares (advance m) none e =
+  spares (advance m) None e =
       let f = advance_facts E s m e in advance_spares m f.1 f.0 (ℕ_discrete m l)
-  spares (insert m id) none e = insert_spares m id (insert_facts E s m id e)
-  spares power_up none e = (tt, tt)
+  spares (insert m id) None e = insert_spares m id (insert_facts E s m id e)
+  spares power_up None e = (tt, tt)
 
 -- ---- so both stay
 
@@ -161,15 +161,15 @@ same_rows E s c p l e = (rw e l, rw e)
 listed-after : (E : Cipher) (s : State) (c : Command) (r : Option ℕ) → sound s.tag ≡ true → refusal E s c ≡ r
     → (p : ℕ) → p < length (hosts s.tag)
     → (p < length (hosts (after E s c).tag)) × (row (after E s c).tag p ≡ row s.tag p)
-listed-after E s (insert k id) none w e p l =
+listed-after E s (insert k id) None w e p l =
     let g = list_grows E s k id e in
     let m = g.longer in
     (omega arith, g.rows_stay p l)
-listed-after E s (read a n room) none w e p l = same_rows E s (read a n room) p l ((sound_stays E s _ w).readers_stay (λ q. tt))
-listed-after E s (write a bs) none w e p l = same_rows E s (write a bs) p l ((sound_stays E s _ w).readers_stay (λ q. tt))
-listed-after E s (advance k) none w e p l = same_rows E s (advance k) p l ((sound_stays E s _ w).readers_stay (λ q. tt))
-listed-after E s power_up none w e p l = same_rows E s power_up p l ((sound_stays E s _ w).readers_stay (λ q. tt))
-listed-after E s c (some n) w e p l =
+listed-after E s (read a n room) None w e p l = same_rows E s (read a n room) p l ((sound_stays E s _ w).readers_stay (λ q. tt))
+listed-after E s (write a bs) None w e p l = same_rows E s (write a bs) p l ((sound_stays E s _ w).readers_stay (λ q. tt))
+listed-after E s (advance k) None w e p l = same_rows E s (advance k) p l ((sound_stays E s _ w).readers_stay (λ q. tt))
+listed-after E s power_up None w e p l = same_rows E s power_up p l ((sound_stays E s _ w).readers_stay (λ q. tt))
+listed-after E s c (Some n) w e p l =
     same_rows E s c p l ((sound_stays E s c w).readers_stay (λ q. some_none (sym e ∙ q)))
 
 used_stays : (E : Cipher) (s : State) (c : Command) (l p j : ℕ) → sound s.tag ≡ true → Used s.tag l p j
@@ -222,7 +222,7 @@ kept E s (c ∷ cs) l p j a w u e =
 
 -- ---- the pairs of an insertion
 
-module _ (E : Cipher) (s : State) (k : ℕ) (id : List ℕ) (e : refusal E s (insert k id) ≡ none) (i : ℕ)
+module _ (E : Cipher) (s : State) (k : ℕ) (id : List ℕ) (e : refusal E s (insert k id) ≡ None) (i : ℕ)
     (l : i < length (hosts s.tag)) where
   abbrev before : List ℕ
   before = s.tag
@@ -298,7 +298,7 @@ module _ (E : Cipher) (s : State) (k : ℕ) (id : List ℕ) (e : refusal E s (in
       kept E m cs k (length (hosts before)) i (slot_for_row before k i) g.stays_sound own_slot
       (ap (λ A. host_slot_at A k i) (sym g.same_segments))
 
-pub keys_shared : (E : Cipher) (s : State) (k : ℕ) (id : List ℕ) → refusal E s (insert k id) ≡ none → KeysShared E s k id
+pub keys_shared : (E : Cipher) (s : State) (k : ℕ) (id : List ℕ) → refusal E s (insert k id) ≡ None → KeysShared E s k id
 keys_shared E s k id e cs i l =
     rw ((their_kept E s k id e i l cs).same_slot, (own_kept E s k id e i l cs).same_slot) (pairs_joined E s k id e i l)
 
@@ -326,7 +326,7 @@ slot_read E s f l p j a e k m =
     segment_read E f l a 48 48 k.is_sound u.there (omega arith) (omega arith) (omega arith) (omega arith)
     (rights f l a 48 u.formed (inserted_open (unit_bytes f.tag l) u.formed u.stage) (rw o at free) m)
 
-pub keys_read : (E : Cipher) (s : State) (k : ℕ) (id : List ℕ) → refusal E s (insert k id) ≡ none → KeysRead E s k id
+pub keys_read : (E : Cipher) (s : State) (k : ℕ) (id : List ℕ) → refusal E s (insert k id) ≡ None → KeysRead E s k id
 keys_read E s k id e cs i l =
     let g = sound_stays E s (insert k id) (insert_sound E s k id e) in
     let m = after E s (insert k id) in

@@ -1,11 +1,11 @@
 -- Where commands store: at the counter, the flag, a PIN but the first, the written bytes, a unit's own, or, by an
 -- insertion, the host list and segments of model 4. So a sound tag stays sound.
+use Rattle.std.specs.Prelude.{None, Option, Some}
 use Prim.Native.Nat.{ℕ, suc, ◌+◌, ◌-◌, ◌≤◌, ◌<◌}
 use mathlib.Core.Path.{◌≡◌, refl, sym, ap, subst, ◌∙◌}
 use mathlib.Core.Logic.{◌≢◌}
 use mathlib.Core.Bool.{Bool, true, false, cond}
 use mathlib.Core.List.{List, [], ◌∷◌, ◌++◌}
-use mathlib.Core.Option.{Option, none, some}
 use native.Mathlib.Omega.{arith}
 use lib.ListN.{length, length-append}
 use lib.Dec.{eqb}
@@ -58,7 +58,7 @@ Lawful t p a n (x ↤ ys) = LawfulAt t p a n x ys
 -- ---- what the commands store is lawful
 
 register_lawful : (E : Cipher) (s : State) (r : Register) (a : ℕ) (bs : List ℕ)
-    → lowest (register_checks E s r bs) ≡ none
+    → lowest (register_checks E s r bs) ≡ None
     → Each (Lawful s.tag (RegisterOf r) a (length bs)) (register_stores E s r bs)
 unfolding register_stores
 register_lawful E s Read a bs e = (to_flag (omega arith) 1 (omega arith) refl refl, tt)
@@ -94,7 +94,7 @@ move_lawful t k a n (SharedKey g) e = tt
 
 pub write_lawful : (E : Cipher) (s : State) (p : Place) (a : ℕ) (bs : List ℕ) → sound s.tag ≡ true
     → Extent (segments s.tag) (publics s.tag) p a (length bs)
-    → lowest (write_checks E s p a bs) ≡ none → Each (Lawful s.tag p a (length bs)) (write_stores E s p a bs)
+    → lowest (write_checks E s p a bs) ≡ None → Each (Lawful s.tag p a (length bs)) (write_stores E s p a bs)
 unfolding write_stores
 write_lawful E s Header a bs w f e =
     let h = header_facts E s a bs e in
@@ -191,10 +191,10 @@ record Made (E : Cipher) (s : State) (c : Command) (r : Option ℕ) : Type 0 whe
   pub at : ℕ
   pub count : ℕ
   pub all_lawful : Each (Lawful s.tag place at count) (made_by r E s c)
-  pub not_listing : (r ≡ none → NoInsertion c) → sort place ≢ 4
+  pub not_listing : (r ≡ None → NoInsertion c) → sort place ≢ 4
 
 -- no write to the reader ID segment is granted
-write_elsewhere : (E : Cipher) (s : State) (p : Place) (a : ℕ) (bs : List ℕ) → lowest (write_checks E s p a bs) ≡ none
+write_elsewhere : (E : Cipher) (s : State) (p : Place) (a : ℕ) (bs : List ℕ) → lowest (write_checks E s p a bs) ≡ None
     → sort p ≢ 4
 unfolding write_checks lowest
 write_elsewhere E s Header a bs e = omega arith
@@ -209,11 +209,11 @@ write_elsewhere E s (Public k) a bs e = omega arith
 
 made : (E : Cipher) (s : State) (c : Command) (r : Option ℕ) → sound s.tag ≡ true → refusal E s c ≡ r → Made E s c r
 unfolding made_by
-made E s c (some n) w e =
+made E s c (Some n) w e =
     record { place = Header; at = 0; count = 0; all_lawful = refusal_lawful s.tag n; not_listing = λ x. omega arith }
-made E s (read a n room) none w e =
+made E s (read a n room) None w e =
     record { place = Header; at = 0; count = 0; all_lawful = (unfold stores in tt); not_listing = λ x. omega arith }
-made E s (write a bs) none w e =
+made E s (write a bs) None w e =
     let g = granted_write E s a bs e in
     record {
       place = g.place;
@@ -225,7 +225,7 @@ made E s (write a bs) none w e =
           (placed s.tag g.place a (length bs) w (place_holds s.tag g.place a (length bs) g.found)) g.free);
       not_listing = λ x. write_elsewhere E s g.place a bs g.free;
     }
-made E s (advance k) none w e =
+made E s (advance k) None w e =
     record {
       place = UnitOf k;
       at = unit_at k;
@@ -233,7 +233,7 @@ made E s (advance k) none w e =
       all_lawful = (unfold stores in advance_lawful s.tag k);
       not_listing = λ x. omega arith;
     }
-made E s (insert k id) none w e =
+made E s (insert k id) None w e =
     record {
       place = Readers;
       at = unit_at k;
@@ -241,7 +241,7 @@ made E s (insert k id) none w e =
       all_lawful = (unfold stores in insert_lawful s.tag k id w (insert_facts E s k id e));
       not_listing = λ x. absurd (x refl);
     }
-made E s power_up none w e =
+made E s power_up None w e =
     record { place = Header; at = 0; count = 0; all_lawful = (unfold stores in tt); not_listing = λ x. omega arith }
 
 -- ---- so they leave what no command may write, and keep the tag sound
@@ -276,7 +276,7 @@ apply-sound t p a n ((x ↤ ys) ∷ ss) u h w =
 
 -- a part that lawful stores leave
 kept_part : (E : Cipher) (s : State) (c : Command) (y m : ℕ) → sound s.tag ≡ true
-    → ((p : Place) (a n x : ℕ) (ys : List ℕ) → ((refusal E s c ≡ none → NoInsertion c) → sort p ≢ 4)
+    → ((p : Place) (a n x : ℕ) (ys : List ℕ) → ((refusal E s c ≡ None → NoInsertion c) → sort p ≢ 4)
     → LawfulAt s.tag p a n x ys
     → Apart x (length ys) y m)
     → part y m (after E s c).tag ≡ part y m s.tag
@@ -352,7 +352,7 @@ pairs_off t k id y m w f b h =
 
 -- a granted write
 pub write_off : (E : Cipher) (s : State) (p : Place) (a : ℕ) (bs : List ℕ) (y m : ℕ) → sound s.tag ≡ true
-    → Holds s.tag p a (length bs) → lowest (write_checks E s p a bs) ≡ none → unit_at 0 ≤ y → Apart a (length bs) y m
+    → Holds s.tag p a (length bs) → lowest (write_checks E s p a bs) ≡ None → unit_at 0 ≤ y → Apart a (length bs) y m
     → ((k : ℕ) → p ≡ Segment k → k < segments s.tag → Apart (unit_at k) 1 y m)
     → Each (Off y m) (write_stores E s p a bs)
 write_off E s p a bs y m w h e b f g =

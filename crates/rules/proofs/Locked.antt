@@ -1,10 +1,10 @@
 -- A locked unit changes only by its model's own moves.
+use Rattle.std.specs.Prelude.{None, Option, Some}
 use Prim.Native.Nat.{ℕ, ◌+◌, ◌<◌}
 use mathlib.Core.Path.{◌≡◌, refl, sym, ap, subst, ◌∙◌}
 use mathlib.Core.Logic.{◌≢◌, ◌⊎◌, inl, inr}
 use mathlib.Core.Bool.{true}
 use mathlib.Core.List.{List, [], ◌∷◌, ◌++◌}
-use mathlib.Core.Option.{Option, none, some}
 use native.Mathlib.Omega.{arith}
 use native.Mathlib.Decide.{ℕ_discrete}
 use lib.ListN.{length}
@@ -94,17 +94,17 @@ module _ (E : Cipher) (s : State) (k : ℕ) (w : sound s.tag ≡ true) (there : 
     (locked : (unit_of (unit_bytes s.tag k)).ne ≡ true) where
   -- when the model may move
   abbrev Moved : Command → Type 0
-  Moved c = OwnMover s k c × (refusal E s c ≡ none)
+  Moved c = OwnMover s k c × (refusal E s c ≡ None)
 
-  write_moves : (a : ℕ) (bs : List ℕ) (p : Place) → place_of s.tag a (length bs) ≡ some p → refusal E s (write a bs) ≡ none
-      → lowest (write_checks E s p a bs) ≡ none → (p ≡ Segment k) ⊎ (p ≢ Segment k)
+  write_moves : (a : ℕ) (bs : List ℕ) (p : Place) → place_of s.tag a (length bs) ≡ Some p → refusal E s (write a bs) ≡ None
+      → lowest (write_checks E s p a bs) ≡ None → (p ≡ Segment k) ⊎ (p ≢ Segment k)
       → Moves (Moved (write a bs)) (unit_bytes s.tag k) (unit_bytes (apply (write_stores E s p a bs) s.tag) k)
   unfolding write_stores
   write_moves a bs p f r e (inl q) =
       let off : Apart a (length bs) (unit_at k) 32 =
       places_apart s.tag p (UnitOf k) a (length bs) (unit_at k) 32 w (place_holds s.tag p a (length bs) f)
       (unit_holds s.tag k there) (λ g. other_sort (Segment k) (UnitOf k) (omega arith) (sym q ∙ g)) in
-      rw q (segment_moves (Moved (write a bs)) (f ∙ ap some q, r) s.tag k a _ _ refl (rw (length_stored _ _ bs) off))
+      rw q (segment_moves (Moved (write a bs)) (f ∙ ap Some q, r) s.tag k a _ _ refl (rw (length_stored _ _ bs) off))
   write_moves a bs p f r e (inr q) =
       let h = place_holds s.tag p a (length bs) f in
       beside (Moved (write a bs)) s.tag k (write_stores E s p a bs)
@@ -113,7 +113,7 @@ module _ (E : Cipher) (s : State) (k : ℕ) (w : sound s.tag ≡ true) (there : 
       (λ g. edit_refused E s k a bs locked (rw g at e)))
       (λ l g b. let z : l ≢ k = λ m. q (g ∙ ap Segment m) in omega arith))
 
-  advance_by : (m : ℕ) → refusal E s (advance m) ≡ none → Dec (m ≡ k)
+  advance_by : (m : ℕ) → refusal E s (advance m) ≡ None → Dec (m ≡ k)
       → can_advance (unit_of (unit_bytes s.tag m)).model ≡ true
       → Moves (Moved (advance m)) (unit_bytes s.tag k) (unit_bytes (apply (advance_stores s.tag m) s.tag) k)
   advance_by m r (yes q) e =
@@ -122,7 +122,7 @@ module _ (E : Cipher) (s : State) (k : ℕ) (w : sound s.tag ≡ true) (there : 
   advance_by m r (no q) e =
       beside (Moved (advance m)) s.tag k _ (advance_off s.tag m (unit_at k) 32 (omega arith) (omega arith))
 
-  insert_by : (m : ℕ) (id : List ℕ) → refusal E s (insert m id) ≡ none → Dec (m ≡ k) → Inserting s.tag m id
+  insert_by : (m : ℕ) (id : List ℕ) → refusal E s (insert m id) ≡ None → Dec (m ≡ k) → Inserting s.tag m id
       → Moves (Moved (insert m id)) (unit_bytes s.tag k) (unit_bytes (apply (insert_stores s.tag m id) s.tag) k)
   insert_by m id r (yes q) f =
       subst (λ i. Moves (Moved (insert m id)) (unit_bytes s.tag k) (unit_bytes (apply (insert_stores s.tag i id) s.tag) k)) (sym q)
@@ -135,15 +135,15 @@ module _ (E : Cipher) (s : State) (k : ℕ) (w : sound s.tag ≡ true) (there : 
   made_moves : (c : Command) (r : Option ℕ) → refusal E s c ≡ r
       → Moves (Moved c) (unit_bytes s.tag k) (unit_bytes (apply (made_by r E s c) s.tag) k)
   unfolding made_by stores
-  made_moves c (some n) e = beside (Moved c) s.tag k _ (refusal_off n (unit_at k) 32 (omega arith))
-  made_moves (read a n room) none e = beside (Moved (read a n room)) s.tag k [] tt
-  made_moves (write a bs) none e =
+  made_moves c (Some n) e = beside (Moved c) s.tag k _ (refusal_off n (unit_at k) 32 (omega arith))
+  made_moves (read a n room) None e = beside (Moved (read a n room)) s.tag k [] tt
+  made_moves (write a bs) None e =
       let g = granted_write E s a bs e in
       rw (stores_write E s a bs g.place g.found)
       (write_moves a bs g.place g.found e g.free (at_segment k g.place))
-  made_moves (advance m) none e = advance_by m e (ℕ_discrete m k) (advance_facts E s m e).1
-  made_moves (insert m id) none e = insert_by m id e (ℕ_discrete m k) (insert_facts E s m id e)
-  made_moves power_up none e = beside (Moved power_up) s.tag k [] tt
+  made_moves (advance m) None e = advance_by m e (ℕ_discrete m k) (advance_facts E s m e).1
+  made_moves (insert m id) None e = insert_by m id e (ℕ_discrete m k) (insert_facts E s m id e)
+  made_moves power_up None e = beside (Moved power_up) s.tag k [] tt
 
 pub locked_unit : (E : Cipher) (s : State) (k : ℕ) (c : Command) → sound s.tag ≡ true → k < segments s.tag
     → (unit_of (unit_bytes s.tag k)).ne ≡ true → LockedUnit E s k c
@@ -154,7 +154,7 @@ locked_unit E s k c w there locked = record { moves = by (made_moves E s k w the
 
     by : Moves (Moved E s k w there locked c) (unit_bytes s.tag k) (unit_bytes (apply (made_by (refusal E s c) E s c) s.tag) k)
         → (unit_bytes (after E s c).tag k ≡ unit_bytes s.tag k)
-        ⊎ (OwnMover s k c × (refusal E s c ≡ none)
+        ⊎ (OwnMover s k c × (refusal E s c ≡ None)
         × (unit_bytes (after E s c).tag k
         ≡ put 0 (own_move (unit_of (unit_bytes s.tag k)).model (unit_bytes s.tag k)) (unit_bytes s.tag k)))
     by (inl e) = inl (ap (λ t. unit_bytes t k) after_is ∙ e)

@@ -1,11 +1,11 @@
 -- The table of places: a range is found in the place in which it lies, no other range is found, and every byte is in
 -- a place.
+use Rattle.std.specs.Prelude.{None, Option, Some}
 use Prim.Native.Nat.{ℕ, zero, suc, ◌+◌, ◌-◌, ◌*◌, ◌/◌, ◌%◌, ◌≤◌, ◌<◌}
 use mathlib.Core.Path.{◌≡◌, refl, sym, ap, subst, ◌∙◌}
 use mathlib.Core.Logic.{◌≢◌, ◌⊎◌, inl, inr}
 use mathlib.Core.Bool.{Bool, true, false, cond}
 use mathlib.Core.List.{List, [], ◌∷◌}
-use mathlib.Core.Option.{Option, none, some}
 use lib.Dec.{leb, ltb}
 use native.Mathlib.Omega.{arith}
 use native.Mathlib.Nat.{mul_comm, div-lt_iff_lt-mul, mul-le-mul_left, mul-suc, mul-div-le, lt-mul-div-succ, div-eq_of_lt-le}
@@ -77,7 +77,7 @@ not_here start size count i a n l b = by (lies_in start size count i a n) refl
     by false e = refl
 
 find_found : (rs : List Row) (from upto a n : ℕ) (p : Place) → 1 ≤ n → Adjoin from upto rs → Within p a n rs
-    → find rs a n ≡ some p
+    → find rs a n ≡ Some p
 unfolding find
 find_found [] from upto a n p l h w = absurd w
 find_found (row start size count place ∷ rs) from upto a n p l h (inl w) =
@@ -92,7 +92,7 @@ find_found (row start size count place ∷ rs) from upto a n p l h (inr w) =
     rw (not_here start size count ((a - start) / size) a n l (within_after rs _ upto a n p h.1 w))
     (find_found rs (start + size * count) upto a n p l h.1 w)
 
-find_within : (rs : List Row) (a n : ℕ) (p : Place) → find rs a n ≡ some p → Within p a n rs
+find_within : (rs : List Row) (a n : ℕ) (p : Place) → find rs a n ≡ Some p → Within p a n rs
 unfolding find
 find_within [] a n p e = some_none (sym e)
 find_within (row start size count place ∷ rs) a n p e =
@@ -101,8 +101,8 @@ find_within (row start size count place ∷ rs) a n p e =
     i : ℕ
     i = (a - start) / size
 
-    by : (b : Bool) → lies_in start size count i a n ≡ b → cond b (some (place i)) (find rs a n) ≡ some p
-        → (find rs a n ≡ some p → Within p a n rs) → Within p a n (row start size count place ∷ rs)
+    by : (b : Bool) → lies_in start size count i a n ≡ b → cond b (Some (place i)) (find rs a n) ≡ Some p
+        → (find rs a n ≡ Some p → Within p a n rs) → Within p a n (row start size count place ∷ rs)
     by true l f later =
         let x = lies-facts start size count i a n l in
         let m : size * i ≤ a - start = mul-div-le (a - start) size in
@@ -145,15 +145,15 @@ rows_adjoin A P h =
     let ends : segment_at A A + 4096 * P ≡ segment_at A (A + P) = omega arith in
     (refl, (refl, (refl, (refl, (refl, (refl, (refl, (behind-spare, (behind, ends)))))))))
 
-found_in : (A P a n : ℕ) (p : Place) → A ≤ most → 1 ≤ n → Within p a n (rows A P) → find (rows A P) a n ≡ some p
+found_in : (A P a n : ℕ) (p : Place) → A ≤ most → 1 ≤ n → Within p a n (rows A P) → find (rows A P) a n ≡ Some p
 found_in A P a n p h l w = find_found (rows A P) _ _ a n p l (rows_adjoin A P h) w
 
 pub place_found : (t : List ℕ) (p : Place) (a n : ℕ) → segments t ≤ most → 1 ≤ n → Holds t p a n
-    → place_of t a n ≡ some p
+    → place_of t a n ≡ Some p
 unfolding place_of
 place_found t p a n h l w = found_in (segments t) (publics t) a n p h l w
 
-pub place_holds : (t : List ℕ) (p : Place) (a n : ℕ) → place_of t a n ≡ some p → Holds t p a n
+pub place_holds : (t : List ℕ) (p : Place) (a n : ℕ) → place_of t a n ≡ Some p → Holds t p a n
 unfolding place_of
 place_holds t p a n e = find_within (rows (segments t) (publics t)) a n p e
 
@@ -306,22 +306,22 @@ no_spare t w e a n l f =
 -- ---- what a range of addresses is found in
 
 module _ (A P a n : ℕ) (h : A ≤ most) where
-  pub found_at : (p : Place) → 1 ≤ n → Extent A P p a n → find (rows A P) a n ≡ some p
+  pub found_at : (p : Place) → 1 ≤ n → Extent A P p a n → find (rows A P) a n ≡ Some p
   found_at p l e = found_in A P a n p h l (lies_at A P a n p e)
 
-  none_found : ((p : Place) → Within p a n (rows A P) → ⊥) → find (rows A P) a n ≡ none
+  none_found : ((p : Place) → Within p a n (rows A P) → ⊥) → find (rows A P) a n ≡ None
   none_found out = by (find (rows A P) a n) refl
     where
-      by : (f : Option Place) → find (rows A P) a n ≡ f → f ≡ none
-      by none e = refl
-      by (some p) e = absurd (out p (find_within (rows A P) a n p e))
+      by : (f : Option Place) → find (rows A P) a n ≡ f → f ≡ None
+      by None e = refl
+      by (Some p) e = absurd (out p (find_within (rows A P) a n p e))
 
   -- the place of the first byte holds them all, if there are not too many
   pub found_up_to : (p : Place) (m : ℕ) → 1 ≤ n → Extent A P p a 1 → (n ≤ m → Extent A P p a n)
-      → (Extent A P p a n → n ≤ m) → find (rows A P) a n ≡ cond (leb n m) (some p) none
+      → (Extent A P p a n → n ≤ m) → find (rows A P) a n ≡ cond (leb n m) (Some p) None
   found_up_to p m l first fits only = by (leb n m) refl
     where
-      by : (b : Bool) → leb n m ≡ b → find (rows A P) a n ≡ cond b (some p) none
+      by : (b : Bool) → leb n m ≡ b → find (rows A P) a n ≡ cond b (Some p) None
       by true e = found_at p l (fits (leb-true n m e))
       by false e =
           none_found (λ q w.
@@ -332,10 +332,10 @@ module _ (A P a n : ℕ) (h : A ≤ most) where
 
   -- behind the controlled segments the public ones are found, and nothing behind them
   pub found_public : (k : ℕ) → 1 ≤ n → segment_at A (A + k) ≤ a → a + n ≤ segment_at A (A + k) + 4096
-      → find (rows A P) a n ≡ cond (ltb k P) (some (Public k)) none
+      → find (rows A P) a n ≡ cond (ltb k P) (Some (Public k)) None
   found_public k l b c = by (ltb k P) refl
     where
-      by : (f : Bool) → ltb k P ≡ f → find (rows A P) a n ≡ cond f (some (Public k)) none
+      by : (f : Bool) → ltb k P ≡ f → find (rows A P) a n ≡ cond f (Some (Public k)) None
       by true e = found_at (Public k) l (ltb-true k P e, b, c)
       by false e =
           none_found (λ q w.
@@ -343,7 +343,7 @@ module _ (A P a n : ℕ) (h : A ≤ most) where
           omega (arith, ltb-false k P e))
 
   -- no place reaches from one 4,096 bytes into the next
-  pub none_across : 4096 < a % 4096 + n → find (rows A P) a n ≡ none
+  pub none_across : 4096 < a % 4096 + n → find (rows A P) a n ≡ None
   none_across l = none_found (λ q w. out q (extent A P a n q h w))
     where
       out : (q : Place) → Extent A P q a n → ⊥

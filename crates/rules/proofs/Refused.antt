@@ -1,10 +1,10 @@
 -- A refused command changes nothing, except 11, which sets the flag; and the number is the lowest that applies.
+use Rattle.std.specs.Prelude.{None, Option, Some}
 use Prim.Native.Nat.{ℕ, ◌≤◌}
 use mathlib.Core.Path.{◌≡◌, refl, sym, ap, subst, ◌∙◌}
 use mathlib.Core.Logic.{◌≢◌, ◌⊎◌, inl, inr}
 use mathlib.Core.Bool.{Bool, true, false, ◌&&◌, ◌||◌, not, cond}
 use mathlib.Core.List.{List, [], ◌∷◌}
-use mathlib.Core.Option.{Option, none, some}
 use native.Mathlib.Omega.{arith}
 use lib.ListN.{length}
 use lib.Dec.{eqb, leb}
@@ -77,7 +77,7 @@ least_later j cs n x = (inr x.0, least)
     least m (inl a) = true_false (sym a.1)
     least m (inr a) = x.1 m a
 
-least_given : (k : ℕ) (rs : List Refusal) (cs : Checks) (n : ℕ) → ascends k rs cs ≡ true → lowest cs ≡ some n
+least_given : (k : ℕ) (rs : List Refusal) (cs : Checks) (n : ℕ) → ascends k rs cs ≡ true → lowest cs ≡ Some n
     → Least n cs
 unfolding lowest
 least_given k rs granted n h e = some_none (sym e)
@@ -87,7 +87,7 @@ least_given k rs (j when true else cs) n h e =
 least_given k rs (j when false else cs) n h e =
     least_later j cs n (least_given j rs cs n (ascends-facts k rs j false cs h).2 e)
 
-none_left : (cs : Checks) (m : ℕ) → lowest cs ≡ none → Applies m cs → ⊥
+none_left : (cs : Checks) (m : ℕ) → lowest cs ≡ None → Applies m cs → ⊥
 unfolding lowest
 none_left granted m e a = a
 none_left (j when true else cs) m e a = some_none e
@@ -118,30 +118,30 @@ segment_ascends a bs i name u o old = slot-ascends a bs (unit_of u).model o old
 write_ascends : (E : Cipher) (s : State) (a : ℕ) (bs : List ℕ) (q : Option Place)
     → ascends 2 (refusals_of (write a bs)) (in_place q (λ p. write_checks E s p a bs)) ≡ true
 unfolding in_place write_checks header_write_checks value_checks edit_checks
-write_ascends E s a bs none = refl
-write_ascends E s a bs (some Header) = refl
-write_ascends E s a bs (some Hidden) = refl
-write_ascends E s a bs (some (RegisterOf r)) = register_ascends E s r a bs
-write_ascends E s a bs (some Pins) = refl
-write_ascends E s a bs (some Readers) = refl
-write_ascends E s a bs (some (UnitOf k)) = refl
-write_ascends E s a bs (some Spare) = refl
-write_ascends E s a bs (some (Segment k)) = segment_ascends a bs _ _ (unit_bytes s.tag k) _ _
-write_ascends E s a bs (some (Public k)) = refl
+write_ascends E s a bs None = refl
+write_ascends E s a bs (Some Header) = refl
+write_ascends E s a bs (Some Hidden) = refl
+write_ascends E s a bs (Some (RegisterOf r)) = register_ascends E s r a bs
+write_ascends E s a bs (Some Pins) = refl
+write_ascends E s a bs (Some Readers) = refl
+write_ascends E s a bs (Some (UnitOf k)) = refl
+write_ascends E s a bs (Some Spare) = refl
+write_ascends E s a bs (Some (Segment k)) = segment_ascends a bs _ _ (unit_bytes s.tag k) _ _
+write_ascends E s a bs (Some (Public k)) = refl
 
 read_ascends : (s : State) (a n room : ℕ) (q : Option Place)
     → ascends 2 (refusals_of (read a n room)) (in_place q (λ p. read_checks s p a n)) ≡ true
 unfolding in_place read_checks unit_read_checks segment_read_checks
-read_ascends s a n room none = refl
-read_ascends s a n room (some Header) = refl
-read_ascends s a n room (some Hidden) = refl
-read_ascends s a n room (some (RegisterOf r)) = refl
-read_ascends s a n room (some Pins) = refl
-read_ascends s a n room (some Readers) = refl
-read_ascends s a n room (some (UnitOf k)) = refl
-read_ascends s a n room (some Spare) = refl
-read_ascends s a n room (some (Segment k)) = refl
-read_ascends s a n room (some (Public k)) = refl
+read_ascends s a n room None = refl
+read_ascends s a n room (Some Header) = refl
+read_ascends s a n room (Some Hidden) = refl
+read_ascends s a n room (Some (RegisterOf r)) = refl
+read_ascends s a n room (Some Pins) = refl
+read_ascends s a n room (Some Readers) = refl
+read_ascends s a n room (Some (UnitOf k)) = refl
+read_ascends s a n room (Some Spare) = refl
+read_ascends s a n room (Some (Segment k)) = refl
+read_ascends s a n room (Some (Public k)) = refl
 
 checks_ascend : (E : Cipher) (s : State) (c : Command) → ascends 1 (refusals_of c) (checks E s c) ≡ true
 unfolding checks advance_checks insert_checks
@@ -165,13 +165,13 @@ pub applies_among : (E : Cipher) (s : State) (c : Command) (n : ℕ) → Applies
     → numbers (refusals_of c) n ≡ true
 applies_among E s c n a = (bounded 1 (refusals_of c) (checks E s c) n (checks_ascend E s c) a).1
 
-number_among : (E : Cipher) (s : State) (c : Command) (n : ℕ) → refusal E s c ≡ some n
+number_among : (E : Cipher) (s : State) (c : Command) (n : ℕ) → refusal E s c ≡ Some n
     → numbers (refusals_of c) n ≡ true
 number_among E s c n e = applies_among E s c n ((lowest_given E s c).lowest_given n e).0
 
 -- a command of which 11 does not speak
 pub not_11 : (E : Cipher) (s : State) (c : Command) → numbers (refusals_of c) 11 ≡ false
-    → (m : ℕ) → refusal E s c ≡ some m → m ≢ 11
+    → (m : ℕ) → refusal E s c ≡ Some m → m ≢ 11
 not_11 E s c h m e q = true_false (sym (number_among E s c m e) ∙ ap (numbers (refusals_of c)) q ∙ h)
 
 case_among : (rs : List Refusal) (n : ℕ) → numbers rs n ≡ true → (r : Refusal) × (number_of r ≡ n) × Among r rs
@@ -184,7 +184,7 @@ case_among (r ∷ rs) n h = by (eqb (number_of r) n) refl h (case_among rs n)
     by true e g later = (r, eqb-true (number_of r) n e, inl refl)
     by false e g later = let x = later g in (x.0, x.1, inr x.2)
 
-pub refusal_named : (E : Cipher) (s : State) (c : Command) (n : ℕ) → refusal E s c ≡ some n → RefusalNamed c n
+pub refusal_named : (E : Cipher) (s : State) (c : Command) (n : ℕ) → refusal E s c ≡ Some n → RefusalNamed c n
 refusal_named E s c n e =
     let x = case_among (refusals_of c) n (number_among E s c n e) in
     record { refusal_case = x.0; its_number = x.1; speaks_of_it = x.2 }
@@ -213,12 +213,12 @@ eleven_or_none Repeated = inr refl
 eleven_or_none BadInsertion = inr refl
 
 -- a refusal other than 11 leaves the state as it was
-pub refused_stays : (E : Cipher) (s : State) (c : Command) (n : ℕ) → refusal E s c ≡ some n → n ≢ 11 → after E s c ≡ s
+pub refused_stays : (E : Cipher) (s : State) (c : Command) (n : ℕ) → refusal E s c ≡ Some n → n ≢ 11 → after E s c ≡ s
 unfolding after after_by refusal_stores apply
 refused_stays E s c n e h = rw (e, ne_eqb n 11 h)
 
 -- 11 is given only on a sound tag, since 1 is lower
-unsound_applies : (E : Cipher) (s : State) (c : Command) (n : ℕ) → sound s.tag ≡ false → refusal E s c ≡ some n
+unsound_applies : (E : Cipher) (s : State) (c : Command) (n : ℕ) → sound s.tag ≡ false → refusal E s c ≡ Some n
     → Applies 1 (checks E s c)
 unfolding refusal checks lowest
 unsound_applies E s (read a m room) n h e = inl (refl, ap not h)
@@ -227,14 +227,14 @@ unsound_applies E s (advance k) n h e = inl (refl, ap not h)
 unsound_applies E s (insert k id) n h e = inl (refl, ap not h)
 unsound_applies E s power_up n h e = some_none (sym e)
 
-pub eleven_sound : (E : Cipher) (s : State) (c : Command) → refusal E s c ≡ some 11 → sound s.tag ≡ true
+pub eleven_sound : (E : Cipher) (s : State) (c : Command) → refusal E s c ≡ Some 11 → sound s.tag ≡ true
 eleven_sound E s c e = by (sound s.tag) refl
   where
     by : (b : Bool) → sound s.tag ≡ b → sound s.tag ≡ true
     by true h = h
     by false h = let x = ((lowest_given E s c).lowest_given 11 e).1 1 (unsound_applies E s c 11 h e) in absurd (omega arith)
 
-refused_tag : (E : Cipher) (s : State) (c : Command) (n : ℕ) → refusal E s c ≡ some n
+refused_tag : (E : Cipher) (s : State) (c : Command) (n : ℕ) → refusal E s c ≡ Some n
     → (after E s c).tag ≡ cond (eqb n 11) (put flag_at (1 ∷ []) s.tag) s.tag
 unfolding after after_by refusal_stores
 refused_tag E s c n e = rw e (by (eqb n 11))
@@ -243,7 +243,7 @@ refused_tag E s c n e = rw e (by (eqb n 11))
     by true = unfold apply in refl
     by false = unfold apply in refl
 
-pub refused_changes_nothing : (E : Cipher) (s : State) (c : Command) (n : ℕ) → refusal E s c ≡ some n
+pub refused_changes_nothing : (E : Cipher) (s : State) (c : Command) (n : ℕ) → refusal E s c ≡ Some n
     → RefusedChangesNothing E s c n
 refused_changes_nothing E s c n e =
     let t = refused_tag E s c n e in
@@ -263,7 +263,7 @@ refused_changes_nothing E s c n e =
     flagged : n ≡ 11 → (after E s c).tag ≡ cond (eqb n 11) (put flag_at (1 ∷ []) s.tag) s.tag
         → flag (after E s c).tag ≡ 1
     flagged h t =
-        let w = eleven_sound E s c (e ∙ ap some h) in
+        let w = eleven_sound E s c (e ∙ ap Some h) in
         let g = sound_long s.tag w in
         ap flag (t ∙ ap (λ b. cond b (put flag_at (1 ∷ []) s.tag) s.tag) (eq-eqb n 11 h))
         ∙ (unfold flag in byte_put flag_at 1 s.tag (omega arith))

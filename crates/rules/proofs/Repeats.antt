@@ -1,10 +1,10 @@
 -- Document 02, L1: how a write of a value is answered, and that a copy of a granted one is told as a repeat.
+use Rattle.std.specs.Prelude.{None, Option, Some}
 use Prim.Native.Nat.{ℕ, zero, suc, ◌-◌, ◌/◌, ◌%◌, ◌≤◌, ◌<◌}
 use mathlib.Core.Path.{◌≡◌, refl, sym, ap, subst, ◌∙◌}
 use mathlib.Core.Logic.{◌≢◌, ◌⊎◌, inl, inr}
 use mathlib.Core.Bool.{Bool, true, false, ◌&&◌, not}
 use mathlib.Core.List.{List}
-use mathlib.Core.Option.{Option, none, some}
 use native.Mathlib.Omega.{arith}
 use lib.ListN.{length}
 use lib.Dec.{eqb}
@@ -109,8 +109,8 @@ module _ (E : Cipher) (s : State) (a : ℕ) (bs : List ℕ) where
       ∙ ap (λ x. lowest (value_checks true (part x 8 t) bs)) (sym e)
 
   shape_refused : (k : ℕ) → sound t ≡ true → CounterSegment t k → MayWrite s.session (unit_bytes t k)
-      → place_of t a (length bs) ≡ some (Segment k) → 1 ≤ length bs → (ValuePlace s a → length bs ≢ 8)
-      → refusal E s (write a bs) ≡ some 12
+      → place_of t a (length bs) ≡ Some (Segment k) → 1 ≤ length bs → (ValuePlace s a → length bs ≢ 8)
+      → refusal E s (write a bs) ≡ Some 12
   shape_refused k w cs m p l other =
       let h = place_holds t (Segment k) a (length bs) p in
       let f = placed t (Segment k) a (length bs) w h in
@@ -119,8 +119,8 @@ module _ (E : Cipher) (s : State) (a : ℕ) (bs : List ℕ) where
       (not_both (offset k % 8) 0 (length bs) 8
       (λ e n. other (in_slot k (offset k / 8) cs (omega arith) m (omega arith)) n))
 
-  header_refused : sound t ≡ true → place_of t a (length bs) ≡ some Header → 1 ≤ length bs → (a ≡ 4 → length bs ≢ 8)
-      → refusal E s (write a bs) ≡ some 4
+  header_refused : sound t ≡ true → place_of t a (length bs) ≡ Some Header → 1 ≤ length bs → (a ≡ 4 → length bs ≢ 8)
+      → refusal E s (write a bs) ≡ Some 4
   unfolding write_checks header_write_checks
   header_refused w p l other =
       let h = place_holds t Header a (length bs) p in
@@ -132,7 +132,7 @@ module _ (E : Cipher) (s : State) (a : ℕ) (bs : List ℕ) where
   abbrev Told : Type 0
   Told = ValuePlace s a × (length bs ≡ 8) × (number bs ≡ value_at a t)
 
-  header_told : lowest (write_checks E s Header a bs) ≡ some 18 → Told
+  header_told : lowest (write_checks E s Header a bs) ≡ Some 18 → Told
   unfolding write_checks header_write_checks
   header_told e =
       let c4 = given_later _ _ _ 18 (omega arith) e in
@@ -141,7 +141,7 @@ module _ (E : Cipher) (s : State) (a : ℕ) (bs : List ℕ) where
       let f : a ≡ 4 = eqb-true _ _ x.0 in
       (in_header f, eqb-true _ _ x.1, v.1 ∙ ap (λ y. number (part y 8 t)) (sym f))
 
-  slot_told : (m : Model) (o : ℕ) (old : List ℕ) → lowest (slot_checks m o old bs) ≡ some 18
+  slot_told : (m : Model) (o : ℕ) (old : List ℕ) → lowest (slot_checks m o old bs) ≡ Some 18
       → (m ≡ Counter) × (o % 8 ≡ 0) × (length bs ≡ 8) × (number bs ≡ number old)
   unfolding slot_checks lowest
   slot_told Default o old e = some_none (sym e)
@@ -154,7 +154,7 @@ module _ (E : Cipher) (s : State) (a : ℕ) (bs : List ℕ) where
   slot_told (SharedKey g) o old e = some_none (sym e)
 
   segment_told : (k : ℕ) → sound t ≡ true → Holds t (Segment k) a (length bs)
-      → lowest (write_checks E s (Segment k) a bs) ≡ some 18 → Told
+      → lowest (write_checks E s (Segment k) a bs) ≡ Some 18 → Told
   unfolding write_checks segment_write_checks
   segment_told k w h e =
       let f = placed t (Segment k) a (length bs) w h in
@@ -194,19 +194,19 @@ module _ (E : Cipher) (s : State) (a : ℕ) (bs : List ℕ) where
   value_place (Public k) x = absurd x
 
   told_in : (p : Place) → (p ≡ Header) ⊎ ((k : ℕ) × (p ≡ Segment k)) → sound t ≡ true → Holds t p a (length bs)
-      → lowest (write_checks E s p a bs) ≡ some 18 → Told
-  told_in p (inl q) w h e = header_told (subst (λ r. lowest (write_checks E s r a bs) ≡ some 18) q e)
+      → lowest (write_checks E s p a bs) ≡ Some 18 → Told
+  told_in p (inl q) w h e = header_told (subst (λ r. lowest (write_checks E s r a bs) ≡ Some 18) q e)
   told_in p (inr q) w h e =
       segment_told q.0 w (subst (λ r. Holds t r a (length bs)) q.1 h)
-      (subst (λ r. lowest (write_checks E s r a bs) ≡ some 18) q.1 e)
+      (subst (λ r. lowest (write_checks E s r a bs) ≡ Some 18) q.1 e)
 
-  told_only : refusal E s (write a bs) ≡ some 18 → Told
+  told_only : refusal E s (write a bs) ≡ Some 18 → Told
   unfolding refusal checks
   told_only e =
       let c1 = given_later _ _ _ 18 (omega arith) e in
       let c2 = given_later _ _ _ 18 (omega arith) c1.1 in
       let c3 = given_later _ _ _ 18 (omega arith) c2.1 in
-      let x = in_place_lem _ _ (some 18) (λ f. let n : ◌≡◌ {A = ℕ} 3 18 = same_some f in absurd (omega arith)) c3.1 in
+      let x = in_place_lem _ _ (Some 18) (λ f. let n : ◌≡◌ {A = ℕ} 3 18 = same_some f in absurd (omega arith)) c3.1 in
       told_in x.0 (value_place x.0 (given_applies 18 _ x.2)) (not-false _ c1.0)
       (place_holds t x.0 a (length bs) x.1) x.2
 
@@ -255,9 +255,9 @@ module _ (E : Cipher) (s : State) (a : ℕ) (bs : List ℕ) where
   in_place_never_both : (q : Option Place) → Applies 12 (in_place q (λ p. write_checks E s p a bs))
       → Applies 18 (in_place q (λ p. write_checks E s p a bs)) → ⊥
   unfolding in_place
-  in_place_never_both none (inl x) y = absurd (omega (arith, x.0))
-  in_place_never_both none (inr x) y = x
-  in_place_never_both (some p) x y = by (value_place E s a bs p y)
+  in_place_never_both None (inl x) y = absurd (omega (arith, x.0))
+  in_place_never_both None (inr x) y = x
+  in_place_never_both (Some p) x y = by (value_place E s a bs p y)
     where
       by : (p ≡ Header) ⊎ ((k : ℕ) × (p ≡ Segment k)) → ⊥
       by (inl q) =

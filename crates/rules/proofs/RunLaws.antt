@@ -1,11 +1,11 @@
 -- Laws of runs over a log: what the commands of a log are, that a run stays within the log and the room, that it can be
 -- continued, and that its replies can be read back. Assumes nothing.
+use Rattle.std.specs.Prelude.{None, Option, Some}
 use Prim.Native.Nat.{ℕ, zero, suc, ◌+◌, ◌-◌, ◌≤◌}
 use mathlib.Core.Path.{◌≡◌, refl, sym, ap, ap₂, subst, ◌∙◌}
 use mathlib.Core.Logic.{◌≢◌, ◌⊎◌, inl, inr}
 use mathlib.Core.Bool.{Bool, true, false, cond}
 use mathlib.Core.List.{List, [], ◌∷◌, ◌++◌, append_assoc}
-use mathlib.Core.Option.{Option, none, some}
 use native.Mathlib.Omega.{arith}
 use native.Mathlib.Nat.{add_assoc, zero-add, sub-zero}
 use lib.ListN.{length, drop, length-append}
@@ -50,12 +50,12 @@ unfolding kinds count_of
 each_kind =
     (tt, (inl refl, (inr (inl refl), (inr (inr (inl refl)), (inr (inr (inr refl)), (tt, (tt, (tt, (tt, (tt, (tt, tt)))))))))))
 
-kind_found : (ks : List (ℕ × Kind)) → KindsOf ks → (b : ℕ) (k : Kind) → kind_in ks b ≡ some k → KindOf k
+kind_found : (ks : List (ℕ × Kind)) → KindsOf ks → (b : ℕ) (k : Kind) → kind_in ks b ≡ Some k → KindOf k
 unfolding kind_in
 kind_found [] h b k e = some_none (sym e)
 kind_found (x ∷ ks) h b k e = by (eqb b x.0) e (kind_found ks h.1 b k)
   where
-    by : (t : Bool) → cond t (some x.1) (kind_in ks b) ≡ some k → (kind_in ks b ≡ some k → KindOf k) → KindOf k
+    by : (t : Bool) → cond t (Some x.1) (kind_in ks b) ≡ Some k → (kind_in ks b ≡ Some k → KindOf k) → KindOf k
     by true f later = subst KindOf (same_some f) h.0
     by false f later = later f
 
@@ -67,16 +67,16 @@ command_of_lem inserts body h = tt
 command_of_lem (reads n) body h = h
 command_of_lem (writes n) body h = tt
 
-pub of_log : (b : ℕ) (body : List ℕ) (c : Command) (n : ℕ) → first b body ≡ some (c, n) → OfLog c
+pub of_log : (b : ℕ) (body : List ℕ) (c : Command) (n : ℕ) → first b body ≡ Some (c, n) → OfLog c
 unfolding first whole_of
 of_log b body c n e = by (kind_in kinds b) refl e
   where
-    by : (o : Option Kind) → kind_in kinds b ≡ o → whole_of o body ≡ some (c, n) → OfLog c
-    by none q f = some_none (sym f)
-    by (some k) q f = whole (leb (body_length k) (length body)) f
+    by : (o : Option Kind) → kind_in kinds b ≡ o → whole_of o body ≡ Some (c, n) → OfLog c
+    by None q f = some_none (sym f)
+    by (Some k) q f = whole (leb (body_length k) (length body)) f
       where
         whole : (t : Bool)
-            → cond {A = Option (Command × ℕ)} t (some (command_of k body, body_length k)) none ≡ some (c, n) → OfLog c
+            → cond {A = Option (Command × ℕ)} t (Some (command_of k body, body_length k)) None ≡ Some (c, n) → OfLog c
         whole true g =
             subst OfLog (ap (λ x. x.0) (same_some g)) (command_of_lem k body (kind_found kinds each_kind b k q))
         whole false g = some_none (sym g)
@@ -95,8 +95,8 @@ each_of zero (b ∷ body) = by (first b body) refl (λ n. each_of n body)
   where
     by : (o : Option (Command × ℕ)) → first b body ≡ o → ((n : ℕ) → EachOf (parsed n body))
         → EachOf (parsed_by o (λ n. parsed n body))
-    by none q later = tt
-    by (some (c, n)) q later = (of_log b body c n q, later n)
+    by None q later = tt
+    by (Some (c, n)) q later = (of_log b body c n q, later n)
 
 -- ---- a reply fits the room that its command asks for
 
@@ -109,16 +109,16 @@ some_bytes n (inr (inr (inr e))) = omega arith
 -- where a grant is a plain 50
 done_fits : (o : Option ℕ) (s : State) (c : Command) → grant s c ≡ done → length (encoded (reply_by o s c)) ≤ 2
 unfolding reply_by encoded
-done_fits none s c e = rw e (omega arith)
-done_fits (some m) s c e = omega arith
+done_fits None s c e = rw e (omega arith)
+done_fits (Some m) s c e = omega arith
 
 pub reply_fits : (E : Cipher) (s : State) (c : Command) → OfLog c → length (encoded (reply E s c)) ≤ room_for c
 unfolding reply reply_by grant encoded room_for
 reply_fits E s (read a n room) h = by (refusal E s (read a n room))
   where
     by : (o : Option ℕ) → length (encoded (reply_by o s (read a n room))) ≤ 1 + n
-    by none = let l = length_part a n s.tag in omega arith
-    by (some m) = let k = some_bytes n h in omega arith
+    by None = let l = length_part a n s.tag in omega arith
+    by (Some m) = let k = some_bytes n h in omega arith
 reply_fits E s (write a bs) h = done_fits (refusal E s (write a bs)) s (write a bs) refl
 reply_fits E s (advance k) h = done_fits (refusal E s (advance k)) s (advance k) refl
 reply_fits E s (insert k id) h = done_fits (refusal E s (insert k id)) s (insert k id) refl
@@ -130,7 +130,7 @@ run_fits E s end room h = omega arith
 run_fits E s unreadable room h = by (leb 2 room) refl
   where
     by : (b : Bool) → leb 2 room ≡ b
-        → length (cond b (stopped (some 15) (encoded (refused 15)) s) (stopped (some 16) [] s)).output ≤ room
+        → length (cond b (stopped (Some 15) (encoded (refused 15)) s) (stopped (Some 16) [] s)).output ≤ room
     by true e = leb-true 2 room e
     by false e = omega arith
 run_fits E s (c taking n then p) room h =
@@ -140,7 +140,7 @@ run_fits E s (c taking n then p) room h =
     rest = carried_out E (after E s c) p (room - length (encoded (reply E s c)))
 
     by : (b : Bool) → leb (room_for c) room ≡ b → length rest.output ≤ room - length (encoded (reply E s c))
-        → length (cond b (onward n (encoded (reply E s c)) rest) (stopped (some 16) [] s)).output ≤ room
+        → length (cond b (onward n (encoded (reply E s c)) rest) (stopped (Some 16) [] s)).output ≤ room
     by true e x =
         let l = leb-true (room_for c) room e in
         let f = reply_fits E s c h.0 in
@@ -158,20 +158,20 @@ run_reads E s (suc skip) (b ∷ log) room h = let x = run_reads E s skip log roo
 run_reads E s zero (b ∷ body) room h = by (first b body) refl (λ s n room l. run_reads E s n body room l)
   where
     none_read : (t : Bool)
-        → (cond t (stopped (some 15) (encoded (refused 15)) s) (stopped (some 16) [] s)).taken + 0 ≤ length (b ∷ body)
+        → (cond t (stopped (Some 15) (encoded (refused 15)) s) (stopped (Some 16) [] s)).taken + 0 ≤ length (b ∷ body)
     none_read true = omega arith
     none_read false = omega arith
 
     some_read : (t : Bool) (n : ℕ) (out : List ℕ) (x : Ran) → x.taken + n ≤ length body
-        → (cond t (onward (1 + n) out x) (stopped (some 16) [] s)).taken + 0 ≤ length (b ∷ body)
+        → (cond t (onward (1 + n) out x) (stopped (Some 16) [] s)).taken + 0 ≤ length (b ∷ body)
     some_read true n out x l = omega arith
     some_read false n out x l = omega arith
 
     by : (o : Option (Command × ℕ)) → first b body ≡ o
         → ((s : State) (n room : ℕ) → n ≤ length body → (carried_out E s (parsed n body) room).taken + n ≤ length body)
         → (carried_out E s (parsed_by o (λ n. parsed n body)) room).taken + 0 ≤ length (b ∷ body)
-    by none q later = none_read (leb 2 room)
-    by (some (c, n)) q later =
+    by None q later = none_read (leb 2 room)
+    by (Some (c, n)) q later =
         let out = encoded (reply E s c) in
         let x = carried_out E (after E s c) (parsed n body) (room - length out) in
         some_read (leb (room_for c) room) n out x (later (after E s c) n _ (body_fits _ body c n q))
@@ -197,7 +197,7 @@ Continued E skip log x more =
     (carried_out E x.state (parsed 0 (drop (skip + x.taken) log)) (more - length x.output))
 
 continue_none : (E : Cipher) (s : State) (log : List ℕ) (more : ℕ)
-    → carried_out E s (parsed 0 log) more ≡ Continued E 0 log (stopped (some 16) [] s) more
+    → carried_out E s (parsed 0 log) more ≡ Continued E 0 log (stopped (Some 16) [] s) more
 unfolding stopped
 continue_none E s log more = sym (rw sub-zero (onward-none _))
 
@@ -209,11 +209,11 @@ continue_on E b n body out y more =
     let f : more - length out - length y.output ≡ more - (length out + length y.output) = omega arith in
     onward_twice (1 + n) y.taken out y.output _ ∙ sym (rw (e, length-append out y.output, ← f))
 
-not_full : {A : Type 0} → ◌≡◌ {A = Option ℕ} (some 15) (some 16) → A
+not_full : {A : Type 0} → ◌≡◌ {A = Option ℕ} (Some 15) (Some 16) → A
 not_full e = let z : ◌≡◌ {A = ℕ} 15 16 = same_some e in absurd (omega arith)
 
 run_continues : (E : Cipher) (s : State) (skip : ℕ) (log : List ℕ) (room more : ℕ) → room ≤ more
-    → (carried_out E s (parsed skip log) room).stop ≡ some 16
+    → (carried_out E s (parsed skip log) room).stop ≡ Some 16
     → carried_out E s (parsed skip log) more ≡ Continued E skip log (carried_out E s (parsed skip log) room) more
 unfolding parsed parsed_by carried_out stopped
 run_continues E s skip [] room more h e = some_none (sym e)
@@ -227,22 +227,22 @@ run_continues E s zero (b ∷ body) room more h e =
     whole o room = carried_out E s (parsed_by o (λ n. parsed n body)) room
 
     full : (o : Option (Command × ℕ)) → first b body ≡ o
-        → whole o more ≡ Continued E 0 (b ∷ body) (stopped (some 16) [] s) more
+        → whole o more ≡ Continued E 0 (b ∷ body) (stopped (Some 16) [] s) more
     full o q = ap (λ o. whole o more) (sym q) ∙ continue_none E s (b ∷ body) more
 
-    at_15 : (t : Bool) → first b body ≡ none
-        → (cond t (stopped (some 15) (encoded (refused 15)) s) (stopped (some 16) [] s)).stop ≡ some 16
-        → whole none more
-        ≡ Continued E 0 (b ∷ body) (cond t (stopped (some 15) (encoded (refused 15)) s) (stopped (some 16) [] s)) more
+    at_15 : (t : Bool) → first b body ≡ None
+        → (cond t (stopped (Some 15) (encoded (refused 15)) s) (stopped (Some 16) [] s)).stop ≡ Some 16
+        → whole None more
+        ≡ Continued E 0 (b ∷ body) (cond t (stopped (Some 15) (encoded (refused 15)) s) (stopped (Some 16) [] s)) more
     at_15 true q f = not_full f
-    at_15 false q f = full none q
+    at_15 false q f = full None q
 
-    by : (o : Option (Command × ℕ)) → first b body ≡ o → (whole o room).stop ≡ some 16
-        → ((s : State) (n room more : ℕ) → room ≤ more → (carried_out E s (parsed n body) room).stop ≡ some 16
+    by : (o : Option (Command × ℕ)) → first b body ≡ o → (whole o room).stop ≡ Some 16
+        → ((s : State) (n room more : ℕ) → room ≤ more → (carried_out E s (parsed n body) room).stop ≡ Some 16
         → carried_out E s (parsed n body) more ≡ Continued E n body (carried_out E s (parsed n body) room) more)
         → whole o more ≡ Continued E 0 (b ∷ body) (whole o room) more
-    by none q f later = at_15 (leb 2 room) q f
-    by (some (c, n)) q f later = at_command (leb (room_for c) room) refl f
+    by None q f later = at_15 (leb 2 room) q f
+    by (Some (c, n)) q f later = at_command (leb (room_for c) room) refl f
       where
         out : List ℕ
         out = encoded (reply E s c)
@@ -251,19 +251,19 @@ run_continues E s zero (b ∷ body) room more h e =
         y = carried_out E (after E s c) (parsed n body) (room - length out)
 
         at_command : (t : Bool) → leb (room_for c) room ≡ t
-            → (cond t (onward (1 + n) out y) (stopped (some 16) [] s)).stop ≡ some 16
-            → whole (some (c, n)) more
-            ≡ Continued E 0 (b ∷ body) (cond t (onward (1 + n) out y) (stopped (some 16) [] s)) more
+            → (cond t (onward (1 + n) out y) (stopped (Some 16) [] s)).stop ≡ Some 16
+            → whole (Some (c, n)) more
+            ≡ Continued E 0 (b ∷ body) (cond t (onward (1 + n) out y) (stopped (Some 16) [] s)) more
         at_command true l g =
             let m = leb-true (room_for c) room l in
             rw (le-leb (room_for c) more (omega arith))
             (ap (onward (1 + n) out)
             (later (after E s c) n (room - length out) (more - length out) (omega arith) (onward_stop (1 + n) out y ∙ g))
             ∙ continue_on E b n body out y more)
-        at_command false l g = full (some (c, n)) q
+        at_command false l g = full (Some (c, n)) q
 
 -- and one that needs no more room
-run_enough : (E : Cipher) (s : State) (p : Parsed) (room more : ℕ) → room ≤ more → (carried_out E s p room).stop ≢ some 16
+run_enough : (E : Cipher) (s : State) (p : Parsed) (room more : ℕ) → room ≤ more → (carried_out E s p room).stop ≢ Some 16
     → carried_out E s p more ≡ carried_out E s p room
 unfolding carried_out stopped
 run_enough E s end room more h e = refl
@@ -273,8 +273,8 @@ run_enough E s unreadable room more h e = by (leb 2 room) refl e
     at k = carried_out E s unreadable k
 
     by : (t : Bool) → leb 2 room ≡ t
-        → (cond t (stopped (some 15) (encoded (refused 15)) s) (stopped (some 16) [] s)).stop ≢ some 16
-        → at more ≡ cond t (stopped (some 15) (encoded (refused 15)) s) (stopped (some 16) [] s)
+        → (cond t (stopped (Some 15) (encoded (refused 15)) s) (stopped (Some 16) [] s)).stop ≢ Some 16
+        → at more ≡ cond t (stopped (Some 15) (encoded (refused 15)) s) (stopped (Some 16) [] s)
     by true l f = let k = leb-true 2 room l in rw (le-leb 2 more (omega arith))
     by false l f = absurd (f refl)
 run_enough E s (c taking n then p) room more h e =
@@ -287,10 +287,10 @@ run_enough E s (c taking n then p) room more h e =
     rest k = carried_out E (after E s c) p (k - length out)
 
     by : (t : Bool) → leb (room_for c) room ≡ t
-        → (cond t (onward n out (rest room)) (stopped (some 16) [] s)).stop ≢ some 16
-        → ((k m : ℕ) → k ≤ m → (carried_out E (after E s c) p k).stop ≢ some 16
+        → (cond t (onward n out (rest room)) (stopped (Some 16) [] s)).stop ≢ Some 16
+        → ((k m : ℕ) → k ≤ m → (carried_out E (after E s c) p k).stop ≢ Some 16
         → carried_out E (after E s c) p m ≡ carried_out E (after E s c) p k)
-        → carried_out E s (c taking n then p) more ≡ cond t (onward n out (rest room)) (stopped (some 16) [] s)
+        → carried_out E s (c taking n then p) more ≡ cond t (onward n out (rest room)) (stopped (Some 16) [] s)
     by true l f later =
         let k = leb-true (room_for c) room l in
         rw (le-leb (room_for c) more (omega arith))
@@ -310,16 +310,16 @@ small (advance k) h = omega arith
 small (insert k id) h = omega arith
 small power_up h = omega arith
 
-full_moves : (E : Cipher) (s : State) (log : List ℕ) (room : ℕ) → 33 ≤ room → (run_log E s log room).stop ≡ some 16
+full_moves : (E : Cipher) (s : State) (log : List ℕ) (room : ℕ) → 33 ≤ room → (run_log E s log room).stop ≡ Some 16
     → 1 ≤ (run_log E s log room).taken
 unfolding stopped onward
 full_moves E s [] room h e = some_none (sym e ∙ ap (λ x. x.stop) (log_is_its_commands E s room).at_end)
 full_moves E s (b ∷ body) room h e = by (first b body) refl
   where
     by : (o : Option (Command × ℕ)) → first b body ≡ o → 1 ≤ (run_log E s (b ∷ body) room).taken
-    by none q =
+    by None q =
         not_full (sym (ap (λ x. x.stop) ((log_is_its_commands E s room).at_15 b body q (omega arith))) ∙ e)
-    by (some (c, n)) q =
+    by (Some (c, n)) q =
         let l = small c (of_log b body c n q) in
         let t = ap (λ x. x.taken) ((log_is_its_commands E s room).at_command b body c n q (omega arith)) in
         omega (arith, t)
@@ -370,16 +370,16 @@ answer_back (gives bs) h rest =
 
 done_readable : (o : Option ℕ) (s : State) (c : Command) → grant s c ≡ done → Readable (reply_by o s c)
 unfolding reply_by
-done_readable none s c e = rw e tt
-done_readable (some m) s c e = tt
+done_readable None s c e = rw e tt
+done_readable (Some m) s c e = tt
 
 pub reply-readable : (E : Cipher) (s : State) (c : Command) → OfLog c → Readable (reply E s c)
 unfolding reply reply_by grant
 reply-readable E s (read a n room) h = by (refusal E s (read a n room)) refl
   where
     by : (o : Option ℕ) → refusal E s (read a n room) ≡ o → Readable (reply_by o s (read a n room))
-    by none e = subst LogCount (sym (granted_read E s a n room e).whole) h
-    by (some m) e = tt
+    by None e = subst LogCount (sym (granted_read E s a n room e).whole) h
+    by (Some m) e = tt
 reply-readable E s (write a bs) h = done_readable (refusal E s (write a bs)) s (write a bs) refl
 reply-readable E s (advance k) h = done_readable (refusal E s (advance k)) s (advance k) refl
 reply-readable E s (insert k id) h = done_readable (refusal E s (insert k id)) s (insert k id) refl

@@ -1,11 +1,11 @@
 -- A read or write inside one segment: 11 is none of its refusals, it leaves the session, and its stores are lawful
 -- ones.
+use Rattle.std.specs.Prelude.{None, Option, Some}
 use Prim.Native.Nat.{ℕ, zero, suc, ◌≤◌}
 use mathlib.Core.Path.{◌≡◌, refl, sym, ap, ap₂, ◌∙◌}
 use mathlib.Core.Logic.{◌≢◌, inl, inr}
 use mathlib.Core.Bool.{true, false}
 use mathlib.Core.List.{List, []}
-use mathlib.Core.Option.{Option, none, some}
 use native.Mathlib.Omega.{arith}
 use lib.ListN.{length}
 use borrow.Author.Tests.{eq-eqb, ne_eqb}
@@ -45,7 +45,7 @@ write_lacks_11 E s A P k a bs p (controlled h) = slot_lacks_11 (unit_of (unit_by
 write_lacks_11 E s A P k a bs p (open_to_all l e h) = refl
 
 -- a write that gets 11 has a byte
-eleven_long : (E : Cipher) (s : State) (a : ℕ) (bs : List ℕ) → refusal E s (write a bs) ≡ some 11 → 1 ≤ length bs
+eleven_long : (E : Cipher) (s : State) (a : ℕ) (bs : List ℕ) → refusal E s (write a bs) ≡ Some 11 → 1 ≤ length bs
 eleven_long E s a bs e = by (length bs) refl
   where
     two : length bs ≡ 0 → Applies 2 (checks E s (write a bs))
@@ -57,12 +57,12 @@ eleven_long E s a bs e = by (length bs) refl
 
 pub ranged_not_11 : (E : Cipher) (s : State) (k a n : ℕ) (p : Place) (c : Command)
     → Numbered (segments s.tag) (publics s.tag) k p → Holds s.tag p a n → Ranged a n c
-    → (m : ℕ) → refusal E s c ≡ some m → m ≢ 11
+    → (m : ℕ) → refusal E s c ≡ Some m → m ≢ 11
 unfolding refusal checks in_place
 ranged_not_11 E s k a n p c u h (a_read room) m e = command-not-11 E s (read a n room) refl m e
 ranged_not_11 E s k a n p c u h (a_write bs l) m e =
     λ q.
-    let e11 = e ∙ ap some q in
+    let e11 = e ∙ ap Some q in
     let w = eleven_sound E s (write a bs) e11 in
     let f = place_found s.tag p a (length bs) (sound-facts s.tag w).most_segments (eleven_long E s a bs e11) (rw l h) in
     never-given 11 _ (rw f (write_lacks_11 E s _ _ k a bs p u)) e11
@@ -75,8 +75,8 @@ module _ (E : Cipher) (s : State) (k a n : ℕ) (p : Place) (w : sound s.tag ≡
   abbrev pub made : Command → List Store
   made c = made_by (refusal E s c) E s c
 
-  granted_place : (bs : List ℕ) → length bs ≡ n → refusal E s (write a bs) ≡ none
-      → (place_of s.tag a (length bs) ≡ some p) × (lowest (write_checks E s p a bs) ≡ none)
+  granted_place : (bs : List ℕ) → length bs ≡ n → refusal E s (write a bs) ≡ None
+      → (place_of s.tag a (length bs) ≡ Some p) × (lowest (write_checks E s p a bs) ≡ None)
   granted_place bs l e =
       let g = granted_write E s a bs e in
       let f = place_found s.tag p a (length bs) (sound-facts s.tag w).most_segments g.long (rw l h) in
@@ -89,9 +89,9 @@ module _ (E : Cipher) (s : State) (k a n : ℕ) (p : Place) (w : sound s.tag ≡
 
   lawful_by : (c : Command) (o : Option ℕ) → refusal E s c ≡ o → Ranged a n c
       → Each (Lawful s.tag p a n) (made_by o E s c)
-  lawful_by c (some m) e r = unfold made_by in (rw (no_stores m (ranged_not_11 E s k a n p c u h r m e)) tt)
-  lawful_by c none e (a_read room) = unfold made_by stores in tt
-  lawful_by c none e (a_write bs l) =
+  lawful_by c (Some m) e r = unfold made_by in (rw (no_stores m (ranged_not_11 E s k a n p c u h r m e)) tt)
+  lawful_by c None e (a_read room) = unfold made_by stores in tt
+  lawful_by c None e (a_write bs l) =
       let g = granted_place bs l e in
       unfold made_by in rw (stores_write E s a bs p g.0)
       (rw l at (write_lawful E s p a bs w (placed s.tag p a (length bs) w (rw l h)) g.1))
@@ -107,9 +107,9 @@ module _ (E : Cipher) (s : State) (k a n : ℕ) (p : Place) (w : sound s.tag ≡
 
   session_by_lem : (c : Command) (o : Option ℕ) → refusal E s c ≡ o → Ranged a n c → (after_by o E s c).session ≡ s.session
   unfolding after_by new_session session_in
-  session_by_lem c (some m) e r = refl
-  session_by_lem c none e (a_read room) = refl
-  session_by_lem c none e (a_write bs l) = rw (granted_place bs l e).0 (segment_session bs p u)
+  session_by_lem c (Some m) e r = refl
+  session_by_lem c None e (a_read room) = refl
+  session_by_lem c None e (a_write bs l) = rw (granted_place bs l e).0 (segment_session bs p u)
 
   pub after_is : (c : Command) → Ranged a n c
       → after E s c ≡ record { tag = apply (made c) s.tag; session = s.session }

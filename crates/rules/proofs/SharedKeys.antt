@@ -1,10 +1,10 @@
 -- A granted insertion: the pairs that it makes, its row and its unit, and what it leaves.
+use Rattle.std.specs.Prelude.{None}
 use Prim.Native.Nat.{ℕ, ◌+◌, ◌*◌, ◌≤◌, ◌<◌}
 use mathlib.Core.Path.{◌≡◌, refl, sym, ap, subst, ◌∙◌}
 use mathlib.Core.Logic.{◌≢◌}
 use mathlib.Core.Bool.{true, false}
 use mathlib.Core.List.{List, ◌++◌}
-use mathlib.Core.Option.{none}
 use native.Mathlib.Omega.{arith}
 use lib.ListN.{length, length-append}
 use borrow.Author.Tests.{eqb-false, not-false}
@@ -168,7 +168,7 @@ module _ (t : List ℕ) (k : ℕ) (id : List ℕ) (w : sound t ≡ true) (f : In
 
 -- ---- what an insertion leaves
 
-module _ (E : Cipher) (s : State) (k : ℕ) (id : List ℕ) (e : refusal E s (insert k id) ≡ none) where
+module _ (E : Cipher) (s : State) (k : ℕ) (id : List ℕ) (e : refusal E s (insert k id) ≡ None) where
   abbrev facts : Inserting s.tag k id
   facts = insert_facts E s k id e
 
@@ -178,7 +178,7 @@ module _ (E : Cipher) (s : State) (k : ℕ) (id : List ℕ) (e : refusal E s (in
 
   pub inserted_tag : (after E s (insert k id)).tag ≡ apply (insert_stores s.tag k id) s.tag
   unfolding made_by stores
-  inserted_tag = after_tag E s (insert k id) none e
+  inserted_tag = after_tag E s (insert k id) None e
 
   elsewhere : (a n : ℕ) → Untouched s.tag k a n → part a n (after E s (insert k id)).tag ≡ part a n s.tag
   elsewhere a n o =

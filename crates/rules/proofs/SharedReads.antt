@@ -1,10 +1,10 @@
 -- Reads of a segment of model 4: what a granted one touches, and which slots may be read.
+use Rattle.std.specs.Prelude.{None, Some}
 use Prim.Native.Nat.{ℕ, zero, suc, ◌+◌, ◌-◌, ◌*◌, ◌≤◌, ◌<◌}
 use mathlib.Core.Path.{◌≡◌, refl, sym, ap, subst, ◌∙◌}
 use mathlib.Core.Logic.{◌≢◌, ◌⊎◌, inl, inr}
 use mathlib.Core.Bool.{Bool, true, false, ◌&&◌, ◌||◌, not}
 use mathlib.Core.List.{List, [], ◌∷◌}
-use mathlib.Core.Option.{none, some}
 use native.Mathlib.Omega.{arith}
 use native.Mathlib.Decide.{ℕ_discrete}
 use lib.ListN.{length}
@@ -46,7 +46,7 @@ own_missed k o n at (g ∷ gs) (suc i) h e a q b c =
 
 -- what its tests say of a granted read
 read_tests : (s : State) (k a n : ℕ) → is_shared_key (unit_of (unit_bytes s.tag k)).model ≡ true
-    → lowest (read_checks s (Segment k) a n) ≡ none
+    → lowest (read_checks s (Segment k) a n) ≡ None
     → readable k (a - segment_at (segments s.tag) k) n (hosts s.tag) ≡ true
 unfolding read_checks segment_read_checks hides
 read_tests s k a n m g =
@@ -74,8 +74,8 @@ readable_slots t k a n x g =
           (at_host t j (omega (arith, l, x, b, c))) d (omega (arith, x, b, c)) (omega (arith, x, b, c))),
     )
 
-pub reads_listed : (E : Cipher) (s : State) (k a n room : ℕ) → refusal E s (read a n room) ≡ none
-    → place_of s.tag a n ≡ some (Segment k) → is_shared_key (unit_of (unit_bytes s.tag k)).model ≡ true
+pub reads_listed : (E : Cipher) (s : State) (k a n room : ℕ) → refusal E s (read a n room) ≡ None
+    → place_of s.tag a n ≡ Some (Segment k) → is_shared_key (unit_of (unit_bytes s.tag k)).model ≡ true
     → ReadsListed E s k a n room
 unfolding refusal checks
 reads_listed E s k a n room e f m =
@@ -84,12 +84,12 @@ reads_listed E s k a n room e f m =
     let c3 = passes _ _ _ c2.1 in
     let c4 = passes _ _ _ c3.1 in
     let w = not-false _ c1.0 in
-    let p = in_place_lem _ _ none some_none c4.1 in
+    let p = in_place_lem _ _ None some_none c4.1 in
     let q : p.0 ≡ Segment k = same_some (sym p.1 ∙ f) in
     let x = placed s.tag (Segment k) a n w (place_holds s.tag (Segment k) a n f) in
-    let y = readable_slots s.tag k a n x.1 (read_tests s k a n m (subst (λ r. lowest (read_checks s r a n) ≡ none) q p.2)) in
+    let y = readable_slots s.tag k a n x.1 (read_tests s k a n m (subst (λ r. lowest (read_checks s r a n) ≡ None) q p.2)) in
     record {
-      gives_them = reply_is E s (read a n room) none (unfold refusal checks in e) ∙ (unfold reply_by grant in refl);
+      gives_them = reply_is E s (read a n room) None (unfold refusal checks in e) ∙ (unfold reply_by grant in refl);
       from_start = x.1;
       to_end = x.2;
       is_listed = y.0;

@@ -1,10 +1,10 @@
 -- One command and the slots of a counter segment: a slot moves by one exactly if the command is a granted write to it.
+use Rattle.std.specs.Prelude.{None, Option, Some}
 use Prim.Native.Nat.{ℕ, ◌+◌, ◌-◌, ◌/◌, ◌≤◌, ◌<◌}
 use mathlib.Core.Path.{◌≡◌, refl, sym, ap, subst, ◌∙◌}
 use mathlib.Core.Logic.{◌≢◌, ◌⊎◌, inl, inr}
 use mathlib.Core.Bool.{Bool, true, false, ◌&&◌, cond}
 use mathlib.Core.List.{List, [], ◌∷◌}
-use mathlib.Core.Option.{Option, none, some}
 use native.Mathlib.Omega.{arith}
 use native.Mathlib.Nat.{add-zero}
 use native.Mathlib.Decide.{ℕ_discrete}
@@ -41,7 +41,7 @@ data Effect (t : List ℕ) (k a : ℕ) (bs : List ℕ) (ss : List Store) : Type 
 
 module _ (E : Cipher) (s : State) (k : ℕ) (w : sound s.tag ≡ true) (cs : CounterSegment s.tag k) where
   segment_effect : (a : ℕ) (bs : List ℕ) → Holds s.tag (Segment k) a (length bs)
-      → lowest (write_checks E s (Segment k) a bs) ≡ none → Effect s.tag k a bs (write_stores E s (Segment k) a bs)
+      → lowest (write_checks E s (Segment k) a bs) ≡ None → Effect s.tag k a bs (write_stores E s (Segment k) a bs)
   unfolding write_stores write_checks stored write_move
   segment_effect a bs h e =
       let f = placed s.tag (Segment k) a (length bs) w h in
@@ -50,7 +50,7 @@ module _ (E : Cipher) (s : State) (k : ℕ) (w : sound s.tag ≡ true) (cs : Cou
       (x.2 ∙ ap (λ n. number (part a n s.tag) + 1) x.1) (rw cs.counts)
 
   write_effect : (p : Place) (a : ℕ) (bs : List ℕ) → Holds s.tag p a (length bs)
-      → lowest (write_checks E s p a bs) ≡ none
+      → lowest (write_checks E s p a bs) ≡ None
       → (p ≡ Segment k) ⊎ (p ≢ Segment k) → Effect s.tag k a bs (write_stores E s p a bs)
   write_effect p a bs h e (inl q) = rw q (segment_effect a bs (rw q at h) (rw q at e))
   write_effect p a bs h e (inr q) =
@@ -59,7 +59,7 @@ module _ (E : Cipher) (s : State) (k : ℕ) (w : sound s.tag ≡ true) (cs : Cou
       let g = (sound_long s.tag w).0 in
       elsewhere (write_off E s p a bs _ 4096 w h e (omega arith) off (λ l f b. omega arith)) off
 
-  granted_effect : (a : ℕ) (bs : List ℕ) → refusal E s (write a bs) ≡ none
+  granted_effect : (a : ℕ) (bs : List ℕ) → refusal E s (write a bs) ≡ None
       → Effect s.tag k a bs (stores E s (write a bs))
   granted_effect a bs e =
       let g = granted_write E s a bs e in
@@ -143,23 +143,23 @@ module _ (E : Cipher) (s : State) (k : ℕ) (w : sound s.tag ≡ true) (cs : Cou
   made_counts : (j : ℕ) (c : Command) (r : Option ℕ) → j < 512 → refusal E s c ≡ r
       → Counts s.tag k j c (reply_by r s c) (made_by r E s c)
   unfolding made_by reply_by grant stores counted
-  made_counts j c (some n) l e =
+  made_counts j c (Some n) l e =
       let g = (sound_long s.tag w).0 in
       counts_beside s.tag k j c (refused n) _ l (refusal_off n _ 4096 (omega arith)) (counted_refused _ c n)
-  made_counts j (read a n room) none l e = counts_beside s.tag k j (read a n room) (gives (part a n s.tag)) [] l tt refl
-  made_counts j (write a bs) none l e =
+  made_counts j (read a n room) None l e = counts_beside s.tag k j (read a n room) (gives (part a n s.tag)) [] l tt refl
+  made_counts j (write a bs) None l e =
       counts_effect s.tag k j a bs _ w cs.there l (granted_effect E s k w cs a bs e)
-  made_counts j (advance m) none l e =
+  made_counts j (advance m) None l e =
       let f = (advance_facts E s m e).0 in
       let g = (sound_long s.tag w).0 in
       counts_beside s.tag k j (advance m) done _ l (advance_off s.tag m _ 4096 (omega arith) (omega arith)) refl
-  made_counts j (insert m id) none l e =
+  made_counts j (insert m id) None l e =
       let f = insert_facts E s m id e in
       let h = f.there in
       let g = (sound_long s.tag w).0 in
       counts_beside s.tag k j (insert m id) done _ l
       (insert_off s.tag m id _ 4096 w f (omega arith) (omega arith) (λ i h. host_apart i h)) refl
-  made_counts j power_up none l e = counts_beside s.tag k j power_up done [] l tt refl
+  made_counts j power_up None l e = counts_beside s.tag k j power_up done [] l tt refl
 
   pub slot_counts : (j : ℕ) (c : Command) → j < 512
       → value_at (slot s.tag k j) (after E s c).tag
@@ -168,7 +168,7 @@ module _ (E : Cipher) (s : State) (k : ℕ) (w : sound s.tag ≡ true) (cs : Cou
       rw (after_tag E s c (refusal E s c) refl, reply_is E s c (refusal E s c) refl) (made_counts j c (refusal E s c) l refl)
 
   -- a granted write to a slot holds the next value
-  pub next_value : (j : ℕ) (bs : List ℕ) → j < 512 → length bs ≡ 8 → refusal E s (write (slot s.tag k j) bs) ≡ none
+  pub next_value : (j : ℕ) (bs : List ℕ) → j < 512 → length bs ≡ 8 → refusal E s (write (slot s.tag k j) bs) ≡ None
       → number bs ≡ value_at (slot s.tag k j) s.tag + 1
   next_value j bs l n e = by _ (granted_effect E s k w cs (slot s.tag k j) bs e)
     where
@@ -178,12 +178,12 @@ module _ (E : Cipher) (s : State) (k : ℕ) (w : sound s.tag ≡ true) (cs : Cou
       by ss (to_slot i m f n v q) = v
 
   -- and leaves it
-  pub written_value : (j : ℕ) (bs : List ℕ) → j < 512 → length bs ≡ 8 → refusal E s (write (slot s.tag k j) bs) ≡ none
+  pub written_value : (j : ℕ) (bs : List ℕ) → j < 512 → length bs ≡ 8 → refusal E s (write (slot s.tag k j) bs) ≡ None
       → value_at (slot s.tag k j) (after E s (write (slot s.tag k j) bs)).tag ≡ number bs
   unfolding reply_by grant
   written_value j bs l n e =
       let x = slot s.tag k j in
-      let r : reply E s (write x bs) ≡ done = reply_is E s (write x bs) none e in
+      let r : reply E s (write x bs) ≡ done = reply_is E s (write x bs) None e in
       let v : value_at x (after E s (write x bs)).tag ≡ value_at x s.tag + 1 =
       rw (r, counted_hit x bs n) at (slot_counts j (write x bs) l) in
       v ∙ sym (next_value j bs l n e)
@@ -210,7 +210,7 @@ locked_stays E s k c w lc =
     }
   where
     same_unit : (unit_bytes (after E s c).tag k ≡ unit_bytes s.tag k)
-        ⊎ (OwnMover s k c × (refusal E s c ≡ none)
+        ⊎ (OwnMover s k c × (refusal E s c ≡ None)
         × (unit_bytes (after E s c).tag k
         ≡ put 0 (own_move (unit_of (unit_bytes s.tag k)).model (unit_bytes s.tag k)) (unit_bytes s.tag k)))
         → unit_bytes (after E s c).tag k ≡ unit_bytes s.tag k

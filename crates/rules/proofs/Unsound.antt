@@ -1,8 +1,8 @@
 -- A tag that is not sound refuses every command but power-up, with 1; a sound one stays sound. Assumes nothing.
+use Rattle.std.specs.Prelude.{Err}
 use mathlib.Core.Path.{◌≡◌, refl, sym, ap, ◌∙◌}
 use mathlib.Core.Bool.{Bool, true, false}
 use Rattle.rules.specs.declared.Refusal.TheVariants as refusal
-use Rattle.rules.specs.declared.Answer.TheVariants.{Refused}
 use Rattle.rules.specs.Map.{sound}
 use Rattle.rules.specs.State.{Cipher, State}
 use Rattle.rules.specs.Refusals.{lowest}
@@ -20,7 +20,7 @@ Tested (insert k id) = Prim.Unit
 Tested power_up = ⊥
 
 pub unsound : (E : Cipher) (s : State) (c : Command) → Tested c → sound s.tag ≡ false
-    → CarriedOut E s c s.tag (record { answer = Refused refusal.Unsound; session = s.session })
+    → CarriedOut E s c s.tag (record { answer = Err refusal.Unsound; session = s.session })
 unfolding refused-by checks after after_by refusal_stores apply lowest
 unsound E s (read a n room) p e = record { answered = rw e; left = rw e }
 unsound E s (write a bs) p e = record { answered = rw e; left = rw e }

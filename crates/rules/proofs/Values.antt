@@ -1,10 +1,10 @@
 -- A value written over a stored one: the next is granted, the same is 18, and the rest is 12.
+use Rattle.std.specs.Prelude.{None, Some}
 use Prim.Native.Nat.{ℕ, ◌+◌, ◌%◌}
 use mathlib.Core.Path.{◌≡◌, refl, sym, ap, ◌∙◌}
 use mathlib.Core.Logic.{◌≢◌, inl, inr}
 use mathlib.Core.Bool.{Bool, true, false, ◌&&◌, ◌||◌, not}
 use mathlib.Core.List.{List}
-use mathlib.Core.Option.{none, some}
 use native.Mathlib.Omega.{arith}
 use lib.ListN.{length}
 use lib.Dec.{eqb}
@@ -44,31 +44,31 @@ no_next old bs e = ne_eqb (number bs) (number old + 1) e
 
 -- ---- the three answers to a value in the right shape
 
-pub value_next : (old bs : List ℕ) → number bs ≡ number old + 1 → lowest (value_checks true old bs) ≡ none
+pub value_next : (old bs : List ℕ) → number bs ≡ number old + 1 → lowest (value_checks true old bs) ≡ None
 unfolding value_checks
 value_next old bs e =
     clears _ _ _ (ap not (or_first _ _ (is_next_lem old bs e)))
     (clears _ _ _ (no_repeat old bs (λ f. absurd (omega (arith, e, f)))) none_applies)
 
-pub value_repeated : (old bs : List ℕ) → number bs ≡ number old → lowest (value_checks true old bs) ≡ some 18
+pub value_repeated : (old bs : List ℕ) → number bs ≡ number old → lowest (value_checks true old bs) ≡ Some 18
 unfolding value_checks
 value_repeated old bs e =
     let r = is_repeat_lem old bs e in leaves _ _ _ (ap not (or_second (is_next old bs) _ r)) ∙ gives _ _ _ r
 
 pub value_other : (old bs : List ℕ) → number bs ≢ number old → number bs ≢ number old + 1
-    → lowest (value_checks true old bs) ≡ some 12
+    → lowest (value_checks true old bs) ≡ Some 12
 unfolding value_checks
 value_other old bs e f = gives _ _ _ (rw (no_next old bs f, no_repeat old bs e))
 
 -- and in another shape
-pub value_unshaped : (shaped : Bool) (old bs : List ℕ) → shaped ≡ false → lowest (value_checks shaped old bs) ≡ some 12
+pub value_unshaped : (shaped : Bool) (old bs : List ℕ) → shaped ≡ false → lowest (value_checks shaped old bs) ≡ Some 12
 unfolding value_checks
 value_unshaped true old bs e = true_false e
 value_unshaped false old bs e = gives _ _ _ refl
 
 -- ---- what a grant and an 18 say
 
-pub value_granted : (shaped : Bool) (old bs : List ℕ) → lowest (value_checks shaped old bs) ≡ none
+pub value_granted : (shaped : Bool) (old bs : List ℕ) → lowest (value_checks shaped old bs) ≡ None
     → (shaped ≡ true) × (number bs ≡ number old + 1)
 unfolding value_checks is_next
 value_granted shaped old bs e =
@@ -82,7 +82,7 @@ value_granted shaped old bs e =
     by true false false e f = true_false e
     by false n r e f = true_false e
 
-pub value_told : (shaped : Bool) (old bs : List ℕ) → lowest (value_checks shaped old bs) ≡ some 18
+pub value_told : (shaped : Bool) (old bs : List ℕ) → lowest (value_checks shaped old bs) ≡ Some 18
     → (shaped ≡ true) × (number bs ≡ number old)
 unfolding value_checks is_repeat
 value_told shaped old bs e =

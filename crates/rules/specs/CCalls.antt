@@ -2,12 +2,11 @@
 -- functions of the library for C have `Called`, or `RunReturned` and `RunLeft`, as their contracts. Assumes nothing.
 use Rattle.std.specs.Prelude.{ℕ, ◌<◌, ◌≡◌, length}
 use mathlib.Core.List.{List, [], ◌∷◌, flatten}
-use Rattle.rules.specs.declared.Answer.{Answer}
 use Rattle.rules.specs.declared.Session.{Session}
 use Rattle.rules.specs.declared.Stop.{Stop}
 use Rattle.rules.specs.Bytes.{byte, part, number, bytes_of}
 use Rattle.rules.specs.State.{Cipher, State, state}
-use Rattle.rules.specs.Answers.{refusal_of, stop_number, code_of}
+use Rattle.rules.specs.Answers.{Answer, refusal_of, stop_number, code_of}
 use Rattle.rules.specs.Command.{Command, refusal, after}
 use Rattle.rules.specs.Calls.{CarriedOut, outcome}
 use Rattle.rules.specs.Runs.{Result, returned, result, run_over}

@@ -1,8 +1,6 @@
 -- Calls: what a function that carries a command out owes, and the demands said of calls of such functions. The public
 -- functions of the tag have `CarriedOut` as their contract. Assumes nothing.
-use Rattle.std.specs.Prelude.{ℕ, ◌+◌, ◌<◌, ◌≡◌, ◌≢◌, List, [], ◌∷◌, ◌++◌, length}
-use Rattle.rules.specs.declared.Answer.{Answer}
-use Rattle.rules.specs.declared.Answer.TheVariants.{Done, Refused}
+use Rattle.std.specs.Prelude.{ℕ, ◌+◌, ◌<◌, ◌≡◌, ◌≢◌, List, [], ◌∷◌, ◌++◌, length, Ok, Err}
 use Rattle.rules.specs.declared.Refusal.{Refusal}
 use Rattle.rules.specs.declared.Refusal.TheVariants.{WrongResponse}
 use Rattle.rules.specs.declared.Outcome.{Outcome}
@@ -10,7 +8,7 @@ use Rattle.rules.specs.declared.Session.{Session}
 use Rattle.rules.specs.Bytes.{part, put}
 use Rattle.rules.specs.Map.{flag_at}
 use Rattle.rules.specs.State.{Cipher, State, state, powered_up}
-use Rattle.rules.specs.Answers.{number_of, refusal_of}
+use Rattle.rules.specs.Answers.{Answer, number_of, refusal_of}
 use Rattle.rules.specs.Command.{Command, Reply, done, gives, refused, read, write, advance, insert, power_up, refusal, after, read_into}
 use Rattle.rules.specs.Demand3.{LockedCounter, slot, value_at, grants, Entry, with_copies, without_copies, own_replies, copy_replies, AllRefused, CopiesOfGranted, MayChangePlaces}
 use Rattle.rules.specs.Run.{final, replies}
@@ -34,20 +32,20 @@ pub record RefusedCall (s : State) (r : Refusal) (t : List ℕ) (o : Outcome) : 
 
 abbrev pub RefusedLeaves : Cipher → Type 0
 RefusedLeaves E =
-    (s : State) (c : Command) (t : List ℕ) (o : Outcome) (r : Refusal) → CarriedOut E s c t o → o.answer ≡ Refused r
+    (s : State) (c : Command) (t : List ℕ) (o : Outcome) (r : Refusal) → CarriedOut E s c t o → o.answer ≡ Err r
     → RefusedCall s r t o
 
 abbrev pub RefusedReads : Cipher → Type 0
 RefusedReads E =
     (s : State) (a n : ℕ) (out : List ℕ) (o : Outcome) (r : Refusal) → CarriedOut E s (read a n (length out)) s.tag o
-    → o.answer ≡ Refused r → read_into E s a n out ≡ out
+    → o.answer ≡ Err r → read_into E s a n out ≡ out
 
 -- ---- calls, one after another
 
 -- the reply of a call: its answer, with the bytes where a read is granted
 abbrev pub reply_of : Answer → Reply → Reply
-reply_of Done r = r
-reply_of (Refused r) q = refused (number_of r)
+reply_of (Ok x) r = r
+reply_of (Err r) q = refused (number_of r)
 
 -- a call on the state s: its command, its reply and the state that it leaves
 pub data Call (E : Cipher) (s : State) : Command → Reply → State → Type 0 where

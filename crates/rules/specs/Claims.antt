@@ -1,15 +1,13 @@
 -- What is claimed of the rules beside demand 3. Theorems.antt says of which ciphers, states and commands. Assumes
 -- nothing.
-use Rattle.std.specs.Prelude.{ℕ, ◌+◌, ◌-◌, ◌*◌, ◌≤◌, ◌<◌, ◌≡◌, ◌≢◌, ◌⊎◌, Bool, true, false, List, [], ◌∷◌, length, drop, replicate}
+use Rattle.std.specs.Prelude.{ℕ, ◌+◌, ◌-◌, ◌*◌, ◌≤◌, ◌<◌, ◌≡◌, ◌≢◌, ◌⊎◌, Bool, true, false, List, [], ◌∷◌, length, drop, replicate, None, Some}
 use Rattle.rules.specs.declared.Stage.TheVariants.{Zero, One, Two}
-use Rattle.std.proofs.Math.Option.{none, some}
 use Rattle.rules.specs.declared.Session.{Session}
 use Rattle.rules.specs.declared.KeyStage.TheVariants.{Filling, Inserted}
 use Rattle.rules.specs.declared.Model.{Model}
 use Rattle.rules.specs.declared.Model.TheVariants.{Default, WriteOnce, Counter, Receiver, SharedKey}
 use Rattle.rules.specs.declared.Place.{Place}
 use Rattle.rules.specs.declared.Place.TheVariants.{Spare, Segment}
-use Rattle.rules.specs.declared.Answer.{Answer}
 use Rattle.rules.specs.declared.Refusal.{Refusal}
 use Rattle.rules.specs.declared.Refusal.TheVariants.{Unsound, Count, Outside, NeverTaken, Malformed, Forbidden, OtherPin, OtherName, BadRegister, FlagUsed, WrongResponse, NotNext, BadEdit, OtherModel, Repeated, BadInsertion}
 use Rattle.rules.specs.declared.Stop.{Stop}
@@ -17,7 +15,7 @@ use Rattle.rules.specs.Bytes.{byte, put, part}
 use Rattle.rules.specs.Map.{Row, row, rows, segments, publics, place_of, flag, flag_at, readers_at, smallest_tag, largest_tag, sound}
 use Rattle.rules.specs.Units.{unit_bytes, unit_of, name_of, bit, model_no, stage_no, model_of}
 use Rattle.rules.specs.State.{Cipher, State}
-use Rattle.rules.specs.Answers.{number_of, refusal_of, stop_number, code_of}
+use Rattle.rules.specs.Answers.{Answer, number_of, refusal_of, stop_number, code_of}
 use Rattle.rules.specs.Refusals.{Checks, granted, ◌when◌else◌}
 use Rattle.rules.specs.Effects.{read_only, advanced, inserted}
 use Rattle.rules.specs.Command.{Command, refusal, checks, reply, refused, filled, after, read, advance, insert, write, power_up}
@@ -39,15 +37,15 @@ Holds t p a n = Within p a n (rows (segments t) (publics t))
 -- a range that lies wholly inside one place is found in that place, and no other range is found; no two places share
 -- a byte; each byte of the tag is in a place, and no place reaches beyond the tag
 pub record TheMap (t : List ℕ) : Type 0 where
-  pub found : (p : Place) (a n : ℕ) → 1 ≤ n → Holds t p a n → place_of t a n ≡ some p
-  pub no_other : (p : Place) (a n : ℕ) → place_of t a n ≡ some p → Holds t p a n
+  pub found : (p : Place) (a n : ℕ) → 1 ≤ n → Holds t p a n → place_of t a n ≡ Some p
+  pub no_other : (p : Place) (a n : ℕ) → place_of t a n ≡ Some p → Holds t p a n
   pub one_place : (p q : Place) (a n : ℕ) → 1 ≤ n → Holds t p a n → Holds t q a n → p ≡ q
-  pub every_byte : (a : ℕ) → a < length t → (p : Place) × (place_of t a 1 ≡ some p)
-  pub in_tag : (p : Place) (a n : ℕ) → place_of t a n ≡ some p → a + n ≤ length t
+  pub every_byte : (a : ℕ) → a < length t → (p : Place) × (place_of t a 1 ≡ Some p)
+  pub in_tag : (p : Place) (a n : ℕ) → place_of t a n ≡ Some p → a + n ≤ length t
 
 -- "the remainder is one spare place": of 128 units there is none
 abbrev pub NoSpare : List ℕ → Type 0
-NoSpare t = (a n : ℕ) → 1 ≤ n → place_of t a n ≢ some Spare
+NoSpare t = (a n : ℕ) → 1 ≤ n → place_of t a n ≢ Some Spare
 
 -- "Smallest 20,480 bytes, largest 1,064,960": no sound tag is outside, and both are reached
 pub record Sizes (t : List ℕ) : Type 0 where
@@ -82,9 +80,9 @@ Applies m granted = ⊥
 Applies m (n when b else cs) = ((m ≡ n) × (b ≡ true)) ⊎ Applies m cs
 
 pub record LowestGiven (E : Cipher) (s : State) (c : Command) : Type 0 where
-  pub lowest_given : (n : ℕ) → refusal E s c ≡ some n
+  pub lowest_given : (n : ℕ) → refusal E s c ≡ Some n
       → Applies n (checks E s c) × ((m : ℕ) → Applies m (checks E s c) → n ≤ m)
-  pub grant_owed : refusal E s c ≡ none → (m : ℕ) → Applies m (checks E s c) → ⊥
+  pub grant_owed : refusal E s c ≡ None → (m : ℕ) → Applies m (checks E s c) → ⊥
 
 -- the numbers of the table that speak of a command
 abbrev pub refusals_of : Command → List Refusal
@@ -150,7 +148,7 @@ pub record SoundStays (E : Cipher) (s : State) (c : Command) : Type 0 where
   pub same_segments : segments (after E s c).tag ≡ segments s.tag
   pub same_publics : publics (after E s c).tag ≡ publics s.tag
   pub low_stays : part 16 4096 (after E s c).tag ≡ part 16 4096 s.tag
-  pub readers_stay : (refusal E s c ≡ none → NoInsertion c) → part readers_at 4096 (after E s c).tag ≡ part readers_at 4096 s.tag
+  pub readers_stay : (refusal E s c ≡ None → NoInsertion c) → part readers_at 4096 (after E s c).tag ≡ part readers_at 4096 s.tag
 
 -- ---- "A unit with nE set is locked: no edit is granted. The models' own moves of RD, WR and stage still happen."
 
@@ -166,7 +164,7 @@ own_move (SharedKey Inserted) u = []
 -- the commands that make it: a write in segment k, its advance, and the insertion of its host
 abbrev pub OwnMover : State → ℕ → Command → Type 0
 OwnMover s k (read a n room) = ⊥
-OwnMover s k (write a bs) = place_of s.tag a (length bs) ≡ some (Segment k)
+OwnMover s k (write a bs) = place_of s.tag a (length bs) ≡ Some (Segment k)
 OwnMover s k (advance m) = m ≡ k
 OwnMover s k (insert m id) = m ≡ k
 OwnMover s k power_up = ⊥
@@ -174,7 +172,7 @@ OwnMover s k power_up = ⊥
 -- the unit of segment k stays as it is, or its model makes its move
 pub record LockedUnit (E : Cipher) (s : State) (k : ℕ) (c : Command) : Type 0 where
   pub moves : (unit_bytes (after E s c).tag k ≡ unit_bytes s.tag k)
-      ⊎ (OwnMover s k c × (refusal E s c ≡ none)
+      ⊎ (OwnMover s k c × (refusal E s c ≡ None)
       × (unit_bytes (after E s c).tag k
       ≡ put 0 (own_move (unit_of (unit_bytes s.tag k)).model (unit_bytes s.tag k)) (unit_bytes s.tag k)))
 
@@ -216,16 +214,16 @@ OneAnswerEach E s cs = length (replies E s cs) ≡ length cs
 -- ---- a log is its commands, one after another
 
 pub record LogIsItsCommands (E : Cipher) (s : State) (room : ℕ) : Type 0 where
-  pub at_end : run_log E s [] room ≡ stopped none [] s
-  pub at_15 : (b : ℕ) (body : List ℕ) → first b body ≡ none → 2 ≤ room
-      → run_log E s (b ∷ body) room ≡ stopped (some 15) (encoded (refused 15)) s
-  pub no_room_15 : (b : ℕ) (body : List ℕ) → first b body ≡ none → room < 2
-      → run_log E s (b ∷ body) room ≡ stopped (some 16) [] s
-  pub at_command : (b : ℕ) (body : List ℕ) (c : Command) (n : ℕ) → first b body ≡ some (c, n) → room_for c ≤ room
+  pub at_end : run_log E s [] room ≡ stopped None [] s
+  pub at_15 : (b : ℕ) (body : List ℕ) → first b body ≡ None → 2 ≤ room
+      → run_log E s (b ∷ body) room ≡ stopped (Some 15) (encoded (refused 15)) s
+  pub no_room_15 : (b : ℕ) (body : List ℕ) → first b body ≡ None → room < 2
+      → run_log E s (b ∷ body) room ≡ stopped (Some 16) [] s
+  pub at_command : (b : ℕ) (body : List ℕ) (c : Command) (n : ℕ) → first b body ≡ Some (c, n) → room_for c ≤ room
       → run_log E s (b ∷ body) room
       ≡ onward (1 + n) (encoded (reply E s c))
       (run_log E (after E s c) (drop n body) (room - length (encoded (reply E s c))))
-  pub no_room : (b : ℕ) (body : List ℕ) (c : Command) (n : ℕ) → first b body ≡ some (c, n) → room < room_for c
-      → run_log E s (b ∷ body) room ≡ stopped (some 16) [] s
-  pub its_commands : (b : ℕ) (body : List ℕ) (c : Command) (n : ℕ) → first b body ≡ some (c, n)
+  pub no_room : (b : ℕ) (body : List ℕ) (c : Command) (n : ℕ) → first b body ≡ Some (c, n) → room < room_for c
+      → run_log E s (b ∷ body) room ≡ stopped (Some 16) [] s
+  pub its_commands : (b : ℕ) (body : List ℕ) (c : Command) (n : ℕ) → first b body ≡ Some (c, n)
       → commands (b ∷ body) ≡ c ∷ commands (drop n body)

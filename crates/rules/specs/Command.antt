@@ -1,7 +1,6 @@
 -- One command: its answer and what it leaves. Document 01, "Refusal numbers" 1 to 3, "A granted read fills ..", and
 -- "How tight the answers are". Assumes nothing.
-use Rattle.std.specs.Prelude.{ℕ, true, not, List, [], length, eqb, ltb}
-use Rattle.std.proofs.Math.Option.{Option, none, some}
+use Rattle.std.specs.Prelude.{ℕ, true, not, List, [], length, eqb, ltb, None, Option, Some}
 use Rattle.rules.specs.declared.Session.{Session}
 use Rattle.rules.specs.declared.Place.{Place}
 use Rattle.rules.specs.Bytes.{part, put}
@@ -29,8 +28,8 @@ pub data Reply : Type 0 where
 
 -- "3: not inside one place"
 unfoldable pub in_place : Option Place → (Place → Checks) → Checks
-in_place none f = 3 when true else granted
-in_place (some p) f = f p
+in_place None f = 3 when true else granted
+in_place (Some p) f = f p
 
 unfoldable pub checks : Cipher → State → Command → Checks
 checks E s (read a n room) =
@@ -60,12 +59,12 @@ refusal E s c = lowest (checks E s c)
 -- ---- what it does if nothing refuses it
 
 unfoldable pub stores_in : Cipher → State → Option Place → ℕ → List ℕ → List Store
-stores_in E s none a bs = []
-stores_in E s (some p) a bs = write_stores E s p a bs
+stores_in E s None a bs = []
+stores_in E s (Some p) a bs = write_stores E s p a bs
 
 unfoldable pub session_in : Cipher → State → Option Place → List ℕ → Session
-session_in E s none bs = s.session
-session_in E s (some p) bs = write_session E s p bs
+session_in E s None bs = s.session
+session_in E s (Some p) bs = write_session E s p bs
 
 unfoldable pub stores : Cipher → State → Command → List Store
 stores E s (read a n room) = []
@@ -92,15 +91,15 @@ grant s power_up = done
 -- 11"
 
 unfoldable pub reply_by : Option ℕ → State → Command → Reply
-reply_by none s c = grant s c
-reply_by (some n) s c = refused n
+reply_by None s c = grant s c
+reply_by (Some n) s c = refused n
 
 unfoldable pub reply : Cipher → State → Command → Reply
 reply E s c = reply_by (refusal E s c) s c
 
 unfoldable pub after_by : Option ℕ → Cipher → State → Command → State
-after_by none E s c = record { tag = apply (stores E s c) s.tag; session = new_session E s c }
-after_by (some n) E s c = record { tag = apply (refusal_stores n) s.tag; session = s.session }
+after_by None E s c = record { tag = apply (stores E s c) s.tag; session = new_session E s c }
+after_by (Some n) E s c = record { tag = apply (refusal_stores n) s.tag; session = s.session }
 
 unfoldable pub after : Cipher → State → Command → State
 after E s c = after_by (refusal E s c) E s c

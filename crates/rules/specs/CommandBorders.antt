@@ -1,6 +1,5 @@
 -- Each rule at its border, as Borders.antt has them: whole commands, and the command log. All is computed. Assumes nothing.
-use Rattle.std.specs.Prelude.{ℕ, ◌-◌, ◌≡◌, Bool, true, false, List, [], ◌∷◌, ◌++◌, length, drop, replicate}
-use Rattle.std.proofs.Math.Option.{Option, none, some}
+use Rattle.std.specs.Prelude.{ℕ, ◌-◌, ◌≡◌, Bool, true, false, List, [], ◌∷◌, ◌++◌, length, drop, replicate, None, Option, Some}
 use Rattle.rules.specs.declared.Session.{Session}
 use Rattle.rules.specs.Bytes.{put}
 use Rattle.rules.specs.Hosts.{Host}
@@ -292,8 +291,8 @@ EffectsStored = Table (λ c. (stores xor_cipher holder c, new_session xor_cipher
 -- the room for them
 
 unfoldable pub known : Option (Command × ℕ) → Bool
-known none = false
-known (some x) = true
+known None = false
+known (Some x) = true
 
 abbrev pub KindsKnown : Type 0
 KindsKnown =
@@ -302,32 +301,32 @@ KindsKnown =
 
 unfoldable pub kind_borders : List ((ℕ × ℕ) × Option (Command × ℕ))
 kind_borders =
-    ((0x00, 0), some (power_up, 0))
-    ∷ ((0x11, 3), none)
-    ∷ ((0x11, 4), some (read 0x010203 1 1, 4))
-    ∷ ((0x12, 3), none)
-    ∷ ((0x12, 4), some (read 0x010203 8 8, 4))
-    ∷ ((0x13, 3), none)
-    ∷ ((0x13, 4), some (read 0x010203 16 16, 4))
-    ∷ ((0x14, 3), none)
-    ∷ ((0x14, 4), some (read 0x010203 32 32, 4))
-    ∷ ((0x21, 4), none)
-    ∷ ((0x21, 5), some (write 0x010203 (4 ∷ []), 5))
-    ∷ ((0x22, 11), none)
-    ∷ ((0x22, 12), some (write 0x010203 (4 ∷ 5 ∷ 6 ∷ 7 ∷ 8 ∷ 9 ∷ 10 ∷ 11 ∷ []), 12))
-    ∷ ((0x23, 19), none)
-    ∷ ((0x23, 20), some (write 0x010203 (drop 4 (counted 20)), 20))
-    ∷ ((0x24, 35), none)
-    ∷ ((0x24, 36), some (write 0x010203 (drop 4 (counted 36)), 36))
-    ∷ ((0x31, 1), none)
-    ∷ ((0x31, 2), some (advance 1, 2))
-    ∷ ((0x32, 17), none)
-    ∷ ((0x32, 18), some (insert 1 (drop 2 (counted 18)), 18))
-    ∷ ((0x00, 40), some (power_up, 0))
-    ∷ ((0x11, 40), some (read 0x010203 1 1, 4))
-    ∷ ((0x21, 40), some (write 0x010203 (4 ∷ []), 5))
-    ∷ ((0x31, 40), some (advance 1, 2))
-    ∷ ((0x32, 40), some (insert 1 (drop 2 (counted 18)), 18))
+    ((0x00, 0), Some (power_up, 0))
+    ∷ ((0x11, 3), None)
+    ∷ ((0x11, 4), Some (read 0x010203 1 1, 4))
+    ∷ ((0x12, 3), None)
+    ∷ ((0x12, 4), Some (read 0x010203 8 8, 4))
+    ∷ ((0x13, 3), None)
+    ∷ ((0x13, 4), Some (read 0x010203 16 16, 4))
+    ∷ ((0x14, 3), None)
+    ∷ ((0x14, 4), Some (read 0x010203 32 32, 4))
+    ∷ ((0x21, 4), None)
+    ∷ ((0x21, 5), Some (write 0x010203 (4 ∷ []), 5))
+    ∷ ((0x22, 11), None)
+    ∷ ((0x22, 12), Some (write 0x010203 (4 ∷ 5 ∷ 6 ∷ 7 ∷ 8 ∷ 9 ∷ 10 ∷ 11 ∷ []), 12))
+    ∷ ((0x23, 19), None)
+    ∷ ((0x23, 20), Some (write 0x010203 (drop 4 (counted 20)), 20))
+    ∷ ((0x24, 35), None)
+    ∷ ((0x24, 36), Some (write 0x010203 (drop 4 (counted 36)), 36))
+    ∷ ((0x31, 1), None)
+    ∷ ((0x31, 2), Some (advance 1, 2))
+    ∷ ((0x32, 17), None)
+    ∷ ((0x32, 18), Some (insert 1 (drop 2 (counted 18)), 18))
+    ∷ ((0x00, 40), Some (power_up, 0))
+    ∷ ((0x11, 40), Some (read 0x010203 1 1, 4))
+    ∷ ((0x21, 40), Some (write 0x010203 (4 ∷ []), 5))
+    ∷ ((0x31, 40), Some (advance 1, 2))
+    ∷ ((0x32, 40), Some (insert 1 (drop 2 (counted 18)), 18))
     ∷ []
 
 abbrev pub KindsRead : Type 0

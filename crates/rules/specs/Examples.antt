@@ -1,6 +1,5 @@
 -- Document 01, "Drawer examples": those marked * as one list; and "Errors that look right". Assumes nothing.
-use Rattle.std.specs.Prelude.{ℕ, ◌≡◌, ◌≢◌, true, List, [], ◌∷◌, ◌++◌, map, replicate}
-use Rattle.std.proofs.Math.Option.{Option, none}
+use Rattle.std.specs.Prelude.{ℕ, ◌≡◌, ◌≢◌, true, List, [], ◌∷◌, ◌++◌, map, replicate, None, Option}
 use Rattle.rules.specs.Bytes.{put, xor}
 use Rattle.rules.specs.Map.{register_at, sound}
 use Rattle.rules.specs.State.{Cipher, State, powered_up, with_pa}
@@ -62,7 +61,7 @@ unfoldable pub starred : List Example
 starred =
     runs 12 (begin counter_tag)
     (0x22 ∷ 0 ∷ 0 ∷ 0x40 ∷ 0 ∷ eight 0 1 ++ 0x22 ∷ 0 ∷ 0 ∷ 0x40 ∷ 0 ∷ eight 0 1 ++ 0x12 ∷ 0 ∷ 0 ∷ 0x40 ∷ 0 ∷ [])
-    31 (0x50 ∷ 0x51 ∷ 0x12 ∷ 0x42 ∷ eight 0 1) none
+    31 (0x50 ∷ 0x51 ∷ 0x12 ∷ 0x42 ∷ eight 0 1) None
     ∷ sends (begin (put 16384 (eight 0 255) counter_tag)) (write 16384 (eight 1 0) ∷ []) (done ∷ [])
     ∷ sends (begin (put 16384 (eight 0 255) counter_tag)) (write 16384 (eight 1 1) ∷ []) (refused 12 ∷ [])
     ∷ sends (begin (put 16384 (replicate 8 255) counter_tag)) (write 16384 (replicate 8 0) ∷ []) (refused 12 ∷ [])

@@ -1,6 +1,5 @@
 -- Document 01, "The command log". Assumes nothing.
-use Rattle.std.specs.Prelude.{ℕ, zero, suc, ◌+◌, ◌-◌, cond, List, [], ◌∷◌, ◌++◌, length, eqb, leb}
-use Rattle.std.proofs.Math.Option.{Option, none, some}
+use Rattle.std.specs.Prelude.{ℕ, zero, suc, ◌+◌, ◌-◌, cond, List, [], ◌∷◌, ◌++◌, length, eqb, leb, None, Option, Some}
 use Rattle.rules.specs.Bytes.{number, part}
 use Rattle.rules.specs.State.{State, Cipher}
 use Rattle.rules.specs.Command.{advance, insert, read, write, Command, power_up, Reply, done, gives, refused, reply, after}
@@ -33,8 +32,8 @@ kinds =
     ∷ []
 
 unfoldable pub kind_in : List (ℕ × Kind) → ℕ → Option Kind
-kind_in [] b = none
-kind_in (k ∷ ks) b = cond (eqb b k.0) (some k.1) (kind_in ks b)
+kind_in [] b = None
+kind_in (k ∷ ks) b = cond (eqb b k.0) (Some k.1) (kind_in ks b)
 
 -- "(address 4)", "(address 4, data)", "(segment 2)"; document 02, L4: "(segment 2, id 16)"
 unfoldable pub body_length : Kind → ℕ
@@ -53,10 +52,10 @@ command_of (writes n) body = write (number (part 0 4 body)) (part 4 n body)
 
 -- the command of a kind and the length of its body, if the body is whole
 unfoldable pub whole_of : Option Kind → List ℕ → Option (Command × ℕ)
-whole_of none body = none
-whole_of (some k) body = cond (leb (body_length k) (length body)) (some (command_of k body, body_length k)) none
+whole_of None body = None
+whole_of (Some k) body = cond (leb (body_length k) (length body)) (Some (command_of k body, body_length k)) None
 
--- the first command of a log that begins with the kind `b`; `none` is a 15: "unknown kind or short body"
+-- the first command of a log that begins with the kind `b`; `None` is a 15: "unknown kind or short body"
 unfoldable pub first : ℕ → List ℕ → Option (Command × ℕ)
 first b body = whole_of (kind_in kinds b) body
 
@@ -69,8 +68,8 @@ pub data Parsed : Type 0 where
 
 -- the command and what follows its body, or a 15
 unfoldable pub parsed_by : Option (Command × ℕ) → (ℕ → Parsed) → Parsed
-parsed_by none rest = unreadable
-parsed_by (some x) rest = x.0 taking (1 + x.1) then rest x.1
+parsed_by None rest = unreadable
+parsed_by (Some x) rest = x.0 taking (1 + x.1) then rest x.1
 
 -- `skip` bytes still belong to the body of the command before
 unfoldable pub parsed : (skip : ℕ) → List ℕ → Parsed
@@ -114,7 +113,7 @@ room_for (insert k id) = 2
 room_for power_up = 2
 
 -- ---- the run: "returns bytes read .., bytes written, the stop (end, 15, 16) and the session"; the bytes written are
--- `output`, and the end is `none`
+-- `output`, and the end is `None`
 
 pub record Ran : Type 0 where
   pub taken : ℕ
@@ -133,13 +132,13 @@ onward n out r = record { taken = n + r.taken; output = out ++ r.output; stop = 
 -- "A 15 is replied and ends the run. .. otherwise the run stops with 16, which is returned and not written, and the
 -- command isn't carried out."
 unfoldable pub carried_out : Cipher → State → Parsed → (room : ℕ) → Ran
-carried_out E s end room = stopped none [] s
+carried_out E s end room = stopped None [] s
 carried_out E s unreadable room =
-    cond (leb 2 room) (stopped (some 15) (encoded (refused 15)) s) (stopped (some 16) [] s)
+    cond (leb 2 room) (stopped (Some 15) (encoded (refused 15)) s) (stopped (Some 16) [] s)
 carried_out E s (c taking n then p) room =
     cond (leb (room_for c) room)
     (onward n (encoded (reply E s c)) (carried_out E (after E s c) p (room - length (encoded (reply E s c)))))
-    (stopped (some 16) [] s)
+    (stopped (Some 16) [] s)
 
 unfoldable pub run_log : Cipher → State → List ℕ → (room : ℕ) → Ran
 run_log E s log room = carried_out E s (parsed 0 log) room

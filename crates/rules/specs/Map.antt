@@ -1,6 +1,5 @@
 -- Document 01, "The memory map"; its places by "What a command does". Assumes nothing.
-use Rattle.std.specs.Prelude.{ℕ, zero, suc, ◌+◌, ◌-◌, ◌*◌, ◌/◌, Bool, ◌&&◌, cond, List, [], ◌∷◌, length, eqb, leb, ltb}
-use Rattle.std.proofs.Math.Option.{Option, none, some}
+use Rattle.std.specs.Prelude.{ℕ, zero, suc, ◌+◌, ◌-◌, ◌*◌, ◌/◌, Bool, ◌&&◌, cond, List, [], ◌∷◌, length, eqb, leb, ltb, None, Option, Some}
 use Rattle.rules.specs.declared.Register.{Register}
 use Rattle.rules.specs.declared.Register.TheVariants.{Read, Write, Edit, Name, Id, Commit, Pa}
 use Rattle.rules.specs.declared.Place.{Place}
@@ -127,9 +126,9 @@ unfoldable pub lies_in : (start size count i a n : ℕ) → Bool
 lies_in start size count i a n = leb start a && ltb i count && leb (a + n) (start + size * i + size)
 
 unfoldable pub find : List Row → ℕ → ℕ → Option Place
-find [] a n = none
+find [] a n = None
 find (row start size count place ∷ rs) a n =
-    let i = (a - start) / size in cond (lies_in start size count i a n) (some (place i)) (find rs a n)
+    let i = (a - start) / size in cond (lies_in start size count i a n) (Some (place i)) (find rs a n)
 
 -- the place that holds the `n` bytes at `a`
 unfoldable pub place_of : List ℕ → ℕ → ℕ → Option Place

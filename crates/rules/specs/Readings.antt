@@ -1,8 +1,7 @@
 -- Where document 01, or L4 of document 02, can be read in two ways and more than one command tells the readings apart: inputs,
 -- with the answers of the reading that is taken. Borders.antt has the others. docs/DECISIONS.md has each question under the name
 -- used here. Assumes nothing.
-use Rattle.std.specs.Prelude.{ℕ, ◌+◌, ◌*◌, List, [], ◌∷◌, ◌++◌, replicate}
-use Rattle.std.proofs.Math.Option.{none, some}
+use Rattle.std.specs.Prelude.{ℕ, ◌+◌, ◌*◌, List, [], ◌∷◌, ◌++◌, replicate, None, Some}
 use Rattle.rules.specs.Bytes.{put}
 use Rattle.rules.specs.Command.{write, done, refused, insert}
 use Rattle.rules.specs.Examples.{Example, sends, begin, counter_tag, host_id, host_tag, runs}
@@ -11,10 +10,10 @@ use Rattle.rules.specs.Examples.{Example, sends, begin, counter_tag, host_id, ho
 -- is a 16 and writes nothing; the command that stops the run adds nothing to the bytes read
 unfoldable pub log_room : List Example
 log_room =
-    runs 8 (begin counter_tag) (0x00 ∷ 0x12 ∷ 0 ∷ 0 ∷ 0 ∷ 16 ∷ []) 1 (0x50 ∷ []) (some 16)
-    ∷ runs 10 (begin counter_tag) (0x00 ∷ 0x12 ∷ 0 ∷ 0 ∷ 0 ∷ 16 ∷ []) 6 (0x50 ∷ 0x51 ∷ 4 ∷ []) none
-    ∷ runs 3 (begin counter_tag) (0x00 ∷ 0x14 ∷ 0 ∷ 0 ∷ 0 ∷ []) 1 (0x50 ∷ 0x51 ∷ 15 ∷ []) (some 15)
-    ∷ runs 2 (begin counter_tag) (0x00 ∷ 0x15 ∷ []) 1 (0x50 ∷ []) (some 16)
+    runs 8 (begin counter_tag) (0x00 ∷ 0x12 ∷ 0 ∷ 0 ∷ 0 ∷ 16 ∷ []) 1 (0x50 ∷ []) (Some 16)
+    ∷ runs 10 (begin counter_tag) (0x00 ∷ 0x12 ∷ 0 ∷ 0 ∷ 0 ∷ 16 ∷ []) 6 (0x50 ∷ 0x51 ∷ 4 ∷ []) None
+    ∷ runs 3 (begin counter_tag) (0x00 ∷ 0x14 ∷ 0 ∷ 0 ∷ 0 ∷ []) 1 (0x50 ∷ 0x51 ∷ 15 ∷ []) (Some 15)
+    ∷ runs 2 (begin counter_tag) (0x00 ∷ 0x15 ∷ []) 1 (0x50 ∷ []) (Some 16)
     ∷ []
 
 -- row i of the list, with a first byte of its id, and the segment number plus one

@@ -1,8 +1,7 @@
 -- Document 01, "What a command does" and "Refusal numbers": what refuses a command in a place, 4 to 14; document 02, L1:
 -- a value written again, 18; L4: what refuses an insertion, 19 among it. Assumes nothing. `t` is the tag, `u` the bytes of
 -- a unit, `bs` the bytes to be written; `read`, `write`, `edit` and `name` are the session's.
-use Rattle.std.specs.Prelude.{ℕ, ◌+◌, ◌-◌, ◌%◌, Bool, true, false, ◌&&◌, ◌||◌, not, cond, List, [], ◌∷◌, length, eqb, leb, ltb}
-use Rattle.std.proofs.Math.Option.{Option, none, some}
+use Rattle.std.specs.Prelude.{ℕ, ◌+◌, ◌-◌, ◌%◌, Bool, true, false, ◌&&◌, ◌||◌, not, cond, List, [], ◌∷◌, length, eqb, leb, ltb, None, Option, Some}
 use Rattle.rules.specs.declared.Stage.TheVariants.{Zero, One, Two}
 use Rattle.rules.specs.declared.KeyStage.TheVariants.{Filling, Inserted}
 use Rattle.rules.specs.declared.Model.{Model}
@@ -26,8 +25,8 @@ pub data Checks : Type 0 where
 
 -- "The lowest refusal number that applies is given."
 unfoldable pub lowest : Checks → Option ℕ
-lowest granted = none
-lowest (n when true else cs) = some n
+lowest granted = None
+lowest (n when true else cs) = Some n
 lowest (n when false else cs) = lowest cs
 
 -- "place never takes it"

@@ -1,6 +1,5 @@
 -- Document 02, L1, "Tell a repeat from a gap": what a well-shaped write of a value is answered. Assumes nothing.
-use Rattle.std.specs.Prelude.{ℕ, ◌+◌, ◌≤◌, ◌<◌, ◌≡◌, ◌≢◌, List, length}
-use Rattle.std.proofs.Math.Option.{none, some}
+use Rattle.std.specs.Prelude.{ℕ, ◌+◌, ◌≤◌, ◌<◌, ◌≡◌, ◌≢◌, List, length, None, Some}
 use Rattle.rules.specs.declared.Place.TheVariants.{Header, Segment}
 use Rattle.rules.specs.Bytes.{number}
 use Rattle.rules.specs.Map.{place_of}
@@ -23,16 +22,16 @@ pub data ValuePlace (s : State) (a : ℕ) : Type 0 where
 -- nothing else is 18
 pub record RepeatTold (E : Cipher) (s : State) (a : ℕ) (bs : List ℕ) : Type 0 where
   pub next_granted : ValuePlace s a → length bs ≡ 8 → number bs ≡ value_at a s.tag + 1
-      → refusal E s (write a bs) ≡ none
-  pub repeat_told : ValuePlace s a → length bs ≡ 8 → number bs ≡ value_at a s.tag → refusal E s (write a bs) ≡ some 18
+      → refusal E s (write a bs) ≡ None
+  pub repeat_told : ValuePlace s a → length bs ≡ 8 → number bs ≡ value_at a s.tag → refusal E s (write a bs) ≡ Some 18
   pub rest_refused : ValuePlace s a → length bs ≡ 8 → number bs ≢ value_at a s.tag
-      → number bs ≢ value_at a s.tag + 1 → refusal E s (write a bs) ≡ some 12
+      → number bs ≢ value_at a s.tag + 1 → refusal E s (write a bs) ≡ Some 12
   pub shape_refused : (k : ℕ) → CounterSegment s.tag k → MayWrite s.session (unit_bytes s.tag k)
-      → place_of s.tag a (length bs) ≡ some (Segment k) → 1 ≤ length bs → (ValuePlace s a → length bs ≢ 8)
-      → refusal E s (write a bs) ≡ some 12
-  pub header_refused : place_of s.tag a (length bs) ≡ some Header → 1 ≤ length bs → (a ≡ 4 → length bs ≢ 8)
-      → refusal E s (write a bs) ≡ some 4
-  pub told_only : refusal E s (write a bs) ≡ some 18
+      → place_of s.tag a (length bs) ≡ Some (Segment k) → 1 ≤ length bs → (ValuePlace s a → length bs ≢ 8)
+      → refusal E s (write a bs) ≡ Some 12
+  pub header_refused : place_of s.tag a (length bs) ≡ Some Header → 1 ≤ length bs → (a ≡ 4 → length bs ≢ 8)
+      → refusal E s (write a bs) ≡ Some 4
+  pub told_only : refusal E s (write a bs) ≡ Some 18
       → ValuePlace s a × (length bs ≡ 8) × (number bs ≡ value_at a s.tag)
 
 -- 12 and 18 never apply together

@@ -1,7 +1,6 @@
 -- A run over a log: what a function that makes one owes, and demand 3 said of what it returns. `run` of the tag has the
 -- equation with `run_over` as its contract. Assumes nothing.
-use Rattle.std.specs.Prelude.{ℕ, zero, suc, ◌+◌, ◌-◌, ◌≤◌, ◌<◌, ◌≡◌, ◌≢◌, cond, List, [], ◌∷◌, ◌++◌, length, drop, eqb}
-use Rattle.std.proofs.Math.Option.{Option, some}
+use Rattle.std.specs.Prelude.{ℕ, zero, suc, ◌+◌, ◌-◌, ◌≤◌, ◌<◌, ◌≡◌, ◌≢◌, cond, List, [], ◌∷◌, ◌++◌, length, drop, eqb, Option, Some}
 use Rattle.rules.specs.declared.Run.{Run}
 use Rattle.rules.specs.declared.Session.{Session}
 use Rattle.rules.specs.declared.Stop.{Stop}
@@ -74,13 +73,13 @@ RunsLeave E s =
 -- log and from the state that it left, as a run with more room would have; and 33 bytes are room for any one reply
 
 pub record RunsContinue (E : Cipher) (s : State) : Type 0 where
-  pub enough : (log : List ℕ) (room more : ℕ) → (run_log E s log room).stop ≢ some 16 → room ≤ more
+  pub enough : (log : List ℕ) (room more : ℕ) → (run_log E s log room).stop ≢ Some 16 → room ≤ more
       → run_log E s log more ≡ run_log E s log room
-  pub goes_on : (log : List ℕ) (room more : ℕ) → (run_log E s log room).stop ≡ some 16 → room ≤ more
+  pub goes_on : (log : List ℕ) (room more : ℕ) → (run_log E s log room).stop ≡ Some 16 → room ≤ more
       → let x = run_log E s log room in
       run_log E s log more
       ≡ onward x.taken x.output (run_log E x.state (drop x.taken log) (more - length x.output))
-  pub moves_on : (log : List ℕ) (room : ℕ) → 33 ≤ room → (run_log E s log room).stop ≡ some 16
+  pub moves_on : (log : List ℕ) (room : ℕ) → 33 ≤ room → (run_log E s log room).stop ≡ Some 16
       → 1 ≤ (run_log E s log room).taken
 
 -- ---- the answers that stand in an output, read back: "41 to 44 with the data, 50 done, 51 and one number"

@@ -1,8 +1,7 @@
 -- All that is proved of the rules, in one record. Each line says of which ciphers, states and commands a claim holds;
 -- the claims themselves stand in Demand3, Calls, Runs, CCalls, Claims, Repeats, SharedKeys, FourCommands, Examples, Readings,
 -- Borders and CommandBorders. Assumes nothing.
-use Rattle.std.specs.Prelude.{ℕ, ◌<◌, ◌≡◌, true, List, length}
-use Rattle.std.proofs.Math.Option.{none, some}
+use Rattle.std.specs.Prelude.{ℕ, ◌<◌, ◌≡◌, true, List, length, None, Some}
 use Rattle.rules.specs.declared.Place.TheVariants.{Segment}
 use Rattle.rules.specs.Map.{sound, segments, place_of}
 use Rattle.rules.specs.Units.{unit_of, unit_bytes}
@@ -41,9 +40,9 @@ pub record Theorems : Type 0 where
   pub session_fits : (E : Cipher) (s : State) → SessionFits E s
   -- refusals
   pub lowest_given : (E : Cipher) (s : State) (c : Command) → LowestGiven E s c
-  pub refusal_named : (E : Cipher) (s : State) (c : Command) (n : ℕ) → refusal E s c ≡ some n → RefusalNamed c n
+  pub refusal_named : (E : Cipher) (s : State) (c : Command) (n : ℕ) → refusal E s c ≡ Some n → RefusalNamed c n
   pub answers_told : AnswersTold
-  pub refused_changes_nothing : (E : Cipher) (s : State) (c : Command) (n : ℕ) → refusal E s c ≡ some n
+  pub refused_changes_nothing : (E : Cipher) (s : State) (c : Command) (n : ℕ) → refusal E s c ≡ Some n
       → RefusedChangesNothing E s c n
   -- a value written again (document 02, L1)
   pub repeat_told : (E : Cipher) (s : State) (a : ℕ) (bs : List ℕ) → sound s.tag ≡ true → RepeatTold E s a bs
@@ -61,17 +60,17 @@ pub record Theorems : Type 0 where
       → (unit_of (unit_bytes s.tag k)).ne ≡ true → LockedUnit E s k c
   pub moves_exact : MovesExact
   -- insertions of hosts (document 02, L4)
-  pub reads_listed : (E : Cipher) (s : State) (k a n room : ℕ) → refusal E s (read a n room) ≡ none
-      → place_of s.tag a n ≡ some (Segment k) → is_shared_key (unit_of (unit_bytes s.tag k)).model ≡ true
+  pub reads_listed : (E : Cipher) (s : State) (k a n room : ℕ) → refusal E s (read a n room) ≡ None
+      → place_of s.tag a n ≡ Some (Segment k) → is_shared_key (unit_of (unit_bytes s.tag k)).model ≡ true
       → ReadsListed E s k a n room
-  pub insertion_leaves : (E : Cipher) (s : State) (k : ℕ) (id : List ℕ) → refusal E s (insert k id) ≡ none
+  pub insertion_leaves : (E : Cipher) (s : State) (k : ℕ) (id : List ℕ) → refusal E s (insert k id) ≡ None
       → InsertionLeaves E s k id
-  pub list_grows : (E : Cipher) (s : State) (k : ℕ) (id : List ℕ) → refusal E s (insert k id) ≡ none
+  pub list_grows : (E : Cipher) (s : State) (k : ℕ) (id : List ℕ) → refusal E s (insert k id) ≡ None
       → ListGrows s.tag (after E s (insert k id)).tag k id
-  pub unit_inserted : (E : Cipher) (s : State) (k : ℕ) (id : List ℕ) → refusal E s (insert k id) ≡ none
+  pub unit_inserted : (E : Cipher) (s : State) (k : ℕ) (id : List ℕ) → refusal E s (insert k id) ≡ None
       → UnitInserted (unit_bytes s.tag k) (unit_bytes (after E s (insert k id)).tag k)
-  pub keys_shared : (E : Cipher) (s : State) (k : ℕ) (id : List ℕ) → refusal E s (insert k id) ≡ none → KeysShared E s k id
-  pub keys_read : (E : Cipher) (s : State) (k : ℕ) (id : List ℕ) → refusal E s (insert k id) ≡ none → KeysRead E s k id
+  pub keys_shared : (E : Cipher) (s : State) (k : ℕ) (id : List ℕ) → refusal E s (insert k id) ≡ None → KeysShared E s k id
+  pub keys_read : (E : Cipher) (s : State) (k : ℕ) (id : List ℕ) → refusal E s (insert k id) ≡ None → KeysRead E s k id
   -- the session
   pub power_up_clears : (E : Cipher) (s : State) → PowerUpClears E s
   pub host_reads : HostReads

@@ -81,10 +81,10 @@ pub enum Place {
     Public(usize),
 }
 
-/// The refusals 1 to 15, 18 and 19, in the order of their numbers; 16 is a run's stop and 17 the cipher's.
+/// The refusals 1 to 15, 18 and 19 by their numbers; 16 is a run's stop and 17 the cipher's.
 #[derive(Clone, Copy)]
 pub enum Refusal {
-    Unsound,
+    Unsound = 1,
     Count,
     Outside,
     NeverTaken,
@@ -99,16 +99,12 @@ pub enum Refusal {
     BadEdit,
     OtherModel,
     Unreadable,
-    Repeated,
+    Repeated = 18,
     BadInsertion,
 }
 
-/// What a command answers. The bytes of a granted read stand in its output.
-#[derive(Clone, Copy)]
-pub enum Answer {
-    Done,
-    Refused(Refusal),
-}
+/// What a command answers: nothing, or why it is refused. The bytes of a granted read stand in its output.
+pub type Answer = Result<(), Refusal>;
 
 /// A command's answer, and the session after it, which stands first for the same reason.
 #[derive(Clone, Copy)]
@@ -120,9 +116,9 @@ pub struct Outcome {
 /// What ends a run over a log: its end, a 15 or a 16.
 #[derive(Clone, Copy)]
 pub enum Stop {
-    End,
-    BadCommand,
-    OutputFull,
+    End = 0,
+    BadCommand = 15,
+    OutputFull = 16,
 }
 
 /// What a run over a log returns: "bytes read .., bytes written, the stop (end, 15, 16) and the session".

@@ -1,17 +1,15 @@
 -- The laws of `run`: its loop has a part of the run behind it, and what is left leads to the result. Assumes nothing.
+use Rattle.std.specs.Prelude.{None, Option, Some, is_some}
 use Prim.Native.Nat.{ℕ, ◌+◌, ◌-◌, ◌≤◌, ◌<◌}
 use mathlib.Core.Path.{◌≡◌, refl, sym, ap, subst, ◌∙◌}
-use mathlib.Core.Bool.{Bool}
+use mathlib.Core.Bool.{Bool, true, false}
 use mathlib.Core.List.{List, [], ◌∷◌}
-use mathlib.Core.Option.{Option, none, some}
 use native.Mathlib.Omega.{arith}
 use native.Mathlib.Nat.{add-zero, zero-add, add_assoc}
 use native.Mathlib.Numerals.{add-one}
 use lib.ListN.{length, drop, length-append, drop_of_length-le}
 use lib.Seq.{drop-cons, drop-drop}
 use borrow.Rule.Slice.PartMut.{put_mid, mid_of}
-use types.Run.{OneOf, miss}
-use denote.Enum.Declared.{tag_of}
 use Rattle.rules.specs.declared.Session.{Session}
 use Rattle.rules.specs.declared.Run.{Run}
 use Rattle.rules.specs.declared.Stop.{Stop}
@@ -23,12 +21,12 @@ use Rattle.rules.specs.State.{State, state}
 use Rattle.rules.specs.Command.{Command, refused, reply, after}
 use Rattle.rules.specs.Log.{Ran, first, encoded, room_for, stopped, onward, run_log}
 use Rattle.rules.specs.Runs.{returned, Result, result, result_of, run_over}
+use Rattle.rules.proofs.Tests.{true_false}
 use Rattle.rules.proofs.BytesLaws.{length-put, put-append, put-none}
 use Rattle.rules.proofs.LogLaws.{log_is_its_commands}
 use Rattle.rules.proofs.RunLaws.{of_log, reply_fits}
 use Rattle.rules.proofs.Unsound.{sound_same}
 use Rattle.xxtea.specs.Block.{E}
-use Rattle.command_log.specs.contracts.Next as the-next
 use Rattle.command_log.specs.declared.Next.{Next}
 use Rattle.command_log.specs.declared.Next.TheVariants as next
 use Rattle.command_log.specs.Next.{ComesNext, kind_of, command_at, length_of, room_asked}
@@ -71,34 +69,32 @@ from_stopped i j q bs s out = rw add-zero
 reply-asked : (s : State) (b : ℕ) (body : List ℕ) (q : Option (Command × ℕ)) → first b body ≡ q
     → length (encoded (reply_for E s q)) ≤ room_asked q
 unfolding encoded
-reply-asked s b body none e = omega arith
-reply-asked s b body (some (c, n)) e = reply_fits E s c (of_log b body c n e)
+reply-asked s b body None e = omega arith
+reply-asked s b body (Some (c, n)) e = reply_fits E s c (of_log b body c n e)
 
 run_full : (s : State) (b : ℕ) (body : List ℕ) (room : ℕ) (q : Option (Command × ℕ)) → first b body ≡ q
-    → room < room_asked q → run_log E s (b ∷ body) room ≡ stopped (some 16) [] s
-run_full s b body room none e h = (log_is_its_commands E s room).no_room_15 b body e h
-run_full s b body room (some (c, n)) e h = (log_is_its_commands E s room).no_room b body c n e h
+    → room < room_asked q → run_log E s (b ∷ body) room ≡ stopped (Some 16) [] s
+run_full s b body room None e h = (log_is_its_commands E s room).no_room_15 b body e h
+run_full s b body room (Some (c, n)) e h = (log_is_its_commands E s room).no_room b body c n e h
 
 -- a command and the bytes that it takes
 record Takes (q : Option (Command × ℕ)) (k : ℕ) : Type 0 where
   command : Command
   body : ℕ
-  comes : q ≡ some (command, body)
+  comes : q ≡ Some (command, body)
   takes : k ≡ 1 + body
 
-takes : (log : List ℕ) (at : ℕ) (x : Next) → OneOf (0 ∷ 1 ∷ 2 ∷ 3 ∷ 4 ∷ []) (tag_of the-next.the_type x)
-    → Takes (command_at log at x) (length_of (kind_of x))
-takes log at next.PowerUp h = record { command = _; body = _; comes = refl; takes = refl }
-takes log at (next.Read d) h = record { command = _; body = _; comes = refl; takes = refl }
-takes log at (next.Write d) h = record { command = _; body = _; comes = refl; takes = refl }
-takes log at next.Advance h = record { command = _; body = _; comes = refl; takes = refl }
-takes log at next.Insert h = record { command = _; body = _; comes = refl; takes = refl }
-takes log at next.Unreadable h = absurd (miss (0 ∷ 1 ∷ 2 ∷ 3 ∷ 4 ∷ []) 5 tt h)
+takes : (log : List ℕ) (at : ℕ) (x : Option Next) → is_some x ≡ true → Takes (command_at log at x) (length_of (kind_of x))
+takes log at (Some next.PowerUp) h = record { command = _; body = _; comes = refl; takes = refl }
+takes log at (Some (next.Read d)) h = record { command = _; body = _; comes = refl; takes = refl }
+takes log at (Some (next.Write d)) h = record { command = _; body = _; comes = refl; takes = refl }
+takes log at (Some next.Advance) h = record { command = _; body = _; comes = refl; takes = refl }
+takes log at (Some next.Insert) h = record { command = _; body = _; comes = refl; takes = refl }
+takes log at None h = true_false (sym h)
 
--- a command takes a byte at least
-pub falls : (log : List ℕ) (i : ℕ) (x : Next) (k : ℕ) → OneOf (0 ∷ 1 ∷ 2 ∷ 3 ∷ 4 ∷ []) (tag_of the-next.the_type x)
-    → i < length log → k ≡ length_of (kind_of x) → length log - (i + k) < length log - i
-falls log i x k d h e = let t : k ≡ 1 + (takes log i x d).body = e ∙ (takes log i x d).takes in omega arith
+pub none_is : {A : Type 0} (x : Option A) → is_some x ≡ false → x ≡ None
+none_is None h = refl
+none_is (Some y) h = true_false h
 
 -- ---- the loop
 
@@ -126,7 +122,7 @@ at_byte : (log : List ℕ) (i : ℕ) → i < length log → drop i log ≡ byte 
 at_byte log i h = rw add-one (drop-cons log i 0 h)
 
 -- the loop stops at a command without room
-pub stops-full : (goal : Result) (log : List ℕ) (is_sound : Bool) (t out : List ℕ) (v : Session) (i j : ℕ) (x : Next) (q : Run)
+pub stops-full : (goal : Result) (log : List ℕ) (is_sound : Bool) (t out : List ℕ) (v : Session) (i j : ℕ) (x : Option Next) (q : Run)
     → Going goal log is_sound t out v i j → i < length log → ComesNext log i x → length out - j < room_asked (command_at log i x)
     → q ≡ returned i j OutputFull v → result q t out ≡ goal
 stops-full goal log is_sound t out v i j x q g h n l e =
@@ -137,7 +133,7 @@ stops-full goal log is_sound t out v i j x q g h n l e =
     rw e (f ∙ ap (λ y. result_from i j y out) (sym (ap (λ l. run_log E s l (length out - j)) (at_byte log i h) ∙ r)) ∙ g.leads)
 
 -- the reply is within the output, and in its place
-pub written_within : (log : List ℕ) (t out u ys : List ℕ) (v : Session) (i j : ℕ) (x : Next) (r : Replied)
+pub written_within : (log : List ℕ) (t out u ys : List ℕ) (v : Session) (i j : ℕ) (x : Option Next) (r : Replied)
     → ComesNext log i x → j ≤ length out → room_asked (command_at log i x) ≤ length out - j
     → Replies E (state t v) (command_at log i x) (mid_of j (length out - j) out) u ys r
     → j + r.written ≤ length out
@@ -146,7 +142,7 @@ written_within log t out u ys v i j x r n f l p =
     let w = p.written.count in
     omega arith
 
-replied_at : (log : List ℕ) (t out u ys : List ℕ) (v : Session) (i j : ℕ) (x : Next) (r : Replied) → ComesNext log i x
+replied_at : (log : List ℕ) (t out u ys : List ℕ) (v : Session) (i j : ℕ) (x : Option Next) (r : Replied) → ComesNext log i x
     → room_asked (command_at log i x) ≤ length out - j → Replies E (state t v) (command_at log i x) (mid_of j (length out - j) out) u ys r
     → put_mid j (length out - j) out ys ≡ put j (encoded (reply_for E (state t v) (command_at log i x))) out
 replied_at log t out u ys v i j x r n l p =
@@ -154,14 +150,14 @@ replied_at log t out u ys v i j x r n l p =
     rw p.written.bytes (put-part-back j (length out - j) _ out (omega arith))
 
 -- the loop stops at a 15, which is replied
-pub stops_15 : (goal : Result) (log : List ℕ) (is_sound : Bool) (t out u ys : List ℕ) (v : Session) (i j : ℕ) (x : Next) (r : Replied) (q : Run)
-    → Going goal log is_sound t out v i j → i < length log → ComesNext log i x → x ≡ next.Unreadable
+pub stops_15 : (goal : Result) (log : List ℕ) (is_sound : Bool) (t out u ys : List ℕ) (v : Session) (i j : ℕ) (x : Option Next) (r : Replied) (q : Run)
+    → Going goal log is_sound t out v i j → i < length log → ComesNext log i x → x ≡ None
     → room_asked (command_at log i x) ≤ length out - j → Replies E (state t v) (command_at log i x) (mid_of j (length out - j) out) u ys r
     → q ≡ returned i (j + r.written) BadCommand r.session → result q u (put_mid j (length out - j) out ys) ≡ goal
 stops_15 goal log is_sound t out u ys v i j x r q g h n e l p d =
     let s = state t v in
-    let none-comes : command_at log i x ≡ none = ap (command_at log i) e in
-    let b : run_log E s (byte i log ∷ drop (i + 1) log) (length out - j) ≡ stopped (some 15) (encoded (refused 15)) s =
+    let none-comes : command_at log i x ≡ None = ap (command_at log i) e in
+    let b : run_log E s (byte i log ∷ drop (i + 1) log) (length out - j) ≡ stopped (Some 15) (encoded (refused 15)) s =
     (log_is_its_commands E s (length out - j)).at_15 _ _ (sym n.command ∙ none-comes) (subst (λ q. room_asked q ≤ length out - j) none-comes l) in
     let o = replied_at log t out u ys v i j x r n l p ∙ ap (λ q. put j (encoded (reply_for E s q)) out) none-comes in
     let w = p.written.count ∙ ap (λ q. length (encoded (reply_for E s q))) none-comes in
@@ -171,9 +167,9 @@ stops_15 goal log is_sound t out u ys v i j x r q g h n e l p d =
     (f ∙ ap (λ y. result_from i j y out) (sym (ap (λ l. run_log E s l (length out - j)) (at_byte log i h) ∙ b)) ∙ g.leads))
 
 -- or goes on behind a command
-pub goes_on : (goal : Result) (log : List ℕ) (is_sound : Bool) (t out u ys : List ℕ) (v : Session) (i j : ℕ) (x : Next) (r : Replied)
+pub goes_on : (goal : Result) (log : List ℕ) (is_sound : Bool) (t out u ys : List ℕ) (v : Session) (i j : ℕ) (x : Option Next) (r : Replied)
     → Going goal log is_sound t out v i j → i < length log → ComesNext log i x
-    → OneOf (0 ∷ 1 ∷ 2 ∷ 3 ∷ 4 ∷ []) (tag_of the-next.the_type x)
+    → is_some x ≡ true
     → room_asked (command_at log i x) ≤ length out - j → Replies E (state t v) (command_at log i x) (mid_of j (length out - j) out) u ys r
     → Going goal log is_sound u (put_mid j (length out - j) out ys) r.session (i + length_of (kind_of x)) (j + r.written)
 goes_on goal log is_sound t out u ys v i j x r g h n d l p =

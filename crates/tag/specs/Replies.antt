@@ -1,7 +1,6 @@
 -- What the functions of `tag` hand each other in a run over a log. The public contracts do not cite it.
-use Rattle.std.specs.Prelude.{ℕ, ◌+◌, ◌≤◌, ◌≡◌, List, length}
-use Rattle.std.proofs.Math.Option.{Option, none, some}
-use Rattle.rules.specs.declared.Answer.{Answer}
+use Rattle.std.specs.Prelude.{ℕ, ◌≤◌, ◌≡◌, List, length, None, Option, Some}
+use Rattle.rules.specs.Answers.{Answer}
 use Rattle.rules.specs.declared.Session.{Session}
 use Rattle.rules.specs.Bytes.{put}
 use Rattle.rules.specs.State.{Cipher, State, state}
@@ -9,22 +8,24 @@ use Rattle.rules.specs.Command.{Command, Reply, read, done, refused, reply, afte
 use Rattle.rules.specs.Calls.{reply_of}
 use Rattle.rules.specs.Log.{count_of, encoded}
 use Rattle.command_log.specs.declared.Next.{Next}
-use Rattle.command_log.specs.Next.{kind_of, command_at, length_of, room_asked}
+use Rattle.command_log.specs.declared.Next.TheVariants as next
+use Rattle.command_log.specs.Next.{kind_of, command_in, length_of, room_asked}
 use Rattle.tag.specs.declared.Replied.{Replied}
 
--- what is replied to the command that comes next, with the length of its body, and the state after it; `none` is a 15
+-- what is replied to the command that comes next, with the length of its body, and the state after it; `None` is a 15
 abbrev pub reply_for : Cipher → State → Option (Command × ℕ) → Reply
-reply_for E s none = refused 15
-reply_for E s (some x) = reply E s x.0
+reply_for E s None = refused 15
+reply_for E s (Some x) = reply E s x.0
 
 abbrev pub after_for : Cipher → State → Option (Command × ℕ) → State
-after_for E s none = s
-after_for E s (some x) = after E s x.0
+after_for E s None = s
+after_for E s (Some x) = after E s x.0
 
--- what comes next at `at` goes to `end`, and the output has the room that its reply must find
-pub record Room (log : List ℕ) (at end : ℕ) (x : Next) (out : List ℕ) : Type 0 where
-  pub ends : end ≡ at + length_of (kind_of x)
-  pub wide : room_asked (command_at log at x) ≤ length out
+-- what comes next has these bytes, and the output the room that its reply must find; a read has some bytes
+pub record Room (x : Option Next) (bytes out : List ℕ) : Type 0 where
+  pub whole : length bytes ≡ length_of (kind_of x)
+  pub some : (d : ℕ) → x ≡ Some (next.Read d) → 1 ≤ count_of d
+  pub wide : room_asked (command_in bytes x) ≤ length out
 
 -- a read of a log, by the last digit of its kind
 abbrev pub read_counted : (address digit : ℕ) → Command

@@ -12,7 +12,7 @@ ghost use Rattle.rules.specs.Calls.{CarriedOut};
 ghost use Rattle.rules.specs.Log.{count_of};
 ghost use Rattle.rules.specs.Runs.{returned, result as left_by, run_over};
 ghost use Rattle.xxtea.specs.Block.{E};
-ghost use Rattle.command_log.specs.Next.{ComesNext, command_at};
+ghost use Rattle.command_log.specs.Next.{command_in};
 ghost use Rattle.tag.specs.Replies.{Answered, Room, Written, Replies, read_counted};
 
 use command_log::Next;
@@ -73,7 +73,8 @@ pub fn insert(tag: &mut [u8], session: Session, segment: usize, id: [u8; 16]) ->
 
 // ---- runs over a log
 
-// A read: its bytes go straight into the output, behind the reply's code.
+// A read: its bytes go straight into the output, behind the reply's code. `is_sound` here and below: see `layout::sound`; the
+// digit: see `Next`.
 fn reply_read(
     tag: &[u8],
     is_sound: bool,
@@ -109,49 +110,45 @@ fn reply_with(output: &mut [u8], answer: Answer, session: Session) -> Replied
     }
 }
 
-// Carries out what comes next at a byte of the log and goes to `end`, and puts its reply at the start of the output. A 15
-// is replied too.
+// Carries out what comes next in a log, whose bytes these are, and puts its reply at the start of the output. A 15, which has
+// no bytes, is replied too.
 fn reply_to(
     tag: &mut [u8],
     is_sound: bool,
     session: Session,
-    log: &[u8],
-    at: usize,
-    end: usize,
-    next: Next,
+    next: Option<Next>,
+    bytes: &[u8],
     output: &mut [u8],
 ) -> Replied
-    requires { (is_sound ≡ sound tag.old) × ComesNext log.now at next × Room log.now at end next output.old }
-    ensures { Replies E (state tag.old session) (command_at log.now at next) output.old tag.new output.new result }
+    requires { (is_sound ≡ sound tag.old) × Room next bytes.now output.old }
+    ensures { Replies E (state tag.old session) (command_in bytes.now next) output.old tag.new output.new result }
 {
+    let Some(next) = next else {
+        return reply_with(output, Err(Refusal::Unreadable), session);
+    };
     match next {
-        Next::PowerUp => reply_with(output, Answer::Done, power_up()),
+        Next::PowerUp => reply_with(output, Ok(()), power_up()),
         Next::Read(digit) => {
-            let address = octets::number32(log, at + 1);
-            Replied {
-                written: reply_read(tag, is_sound, session, address, digit, output),
-                session,
-            }
+            let address = octets::number32(bytes, 1);
+            let written = reply_read(tag, is_sound, session, address, digit, output);
+            Replied { written, session }
         }
         Next::Write(_) => {
-            let address = octets::number32(log, at + 1);
-            let outcome = writes::write(tag, is_sound, session, address, &log[at + 5..end]);
-            let answer = outcome.answer;
-            let after = outcome.session;
-            reply_with(output, answer, after)
+            let address = octets::number32(bytes, 1);
+            let outcome = writes::write(tag, is_sound, session, address, &bytes[5..]);
+            reply_with(output, outcome.answer, outcome.session)
         }
         Next::Advance => {
-            let segment = octets::number16(log, at + 1);
+            let segment = octets::number16(bytes, 1);
             let answer = moves::advance(tag, is_sound, session, segment);
             reply_with(output, answer, session)
         }
         Next::Insert => {
-            let segment = octets::number16(log, at + 1);
-            let host = octets::sixteen(&log[at + 3..end]);
+            let segment = octets::number16(bytes, 1);
+            let host = octets::sixteen(&bytes[3..]);
             let answer = moves::insert(tag, is_sound, session, segment, host);
             reply_with(output, answer, session)
         }
-        Next::Unreadable => reply_with(output, Answer::Refused(Refusal::Unreadable), session),
     }
 }
 
@@ -166,7 +163,8 @@ fn stopped(read: usize, written: usize, stop: Stop, session: Session) -> rules::
     }
 }
 
-// Soundness is tested once: a sound tag stays sound, and nothing changes one that is not.
+// Soundness is tested once: a sound tag stays sound, and nothing changes one that is not. A `while`, since what stands in the
+// log tells how far a command goes.
 pub fn run(tag: &mut [u8], session: Session, log: &[u8], output: &mut [u8]) -> rules::Run
     ensures { left_by result tag.new output.new ≡ run_over E (state tag.old session) log.now output.old }
 {
@@ -184,16 +182,13 @@ pub fn run(tag: &mut [u8], session: Session, log: &[u8], output: &mut [u8]) -> r
             tag,
             is_sound,
             session,
-            log,
-            read,
-            end,
             next,
+            &log[read..end],
             &mut output[written..],
         );
-        let after = replied.session;
-        session = after;
+        session = replied.session;
         written += replied.written;
-        if let Next::Unreadable = next {
+        if next.is_none() {
             return stopped(read, written, Stop::BadCommand, session);
         }
         read = end;

@@ -1,9 +1,9 @@
 -- The laws that the functions of `tag_c` cite: the session's bytes, and a call by its answer and its session. Assumes
 -- nothing.
+use Rattle.std.specs.Prelude.{None, Option, Some}
 use Prim.Native.Nat.{ℕ, ◌+◌}
 use mathlib.Core.Path.{◌≡◌, refl, sym, ap, subst, ◌∙◌}
 use mathlib.Core.List.{List, ◌++◌, flatten}
-use mathlib.Core.Option.{Option, none, some}
 use native.Mathlib.Omega.{arith}
 use lib.ListN.{length, replicate, length-append}
 use Rattle.rules.specs.declared.Session.{Session}
@@ -74,8 +74,8 @@ unfolding after after_by
 session_stays s c e = by (refusal E s c)
   where
     by : (r : Option ℕ) → (after_by r E s c).session ≡ s.session
-    by none = e
-    by (some n) = refl
+    by None = e
+    by (Some n) = refl
 
 pub leaves_session : (t u b : List ℕ) (v : Session) (c : Command) (n : ℕ) (o : Outcome) → Lent b → v ≡ session_of b
     → new_session E (state t v) c ≡ v → n ≡ code_of (refusal_of o.answer) → CarriedOut E (state t v) c u o

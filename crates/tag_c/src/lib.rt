@@ -14,9 +14,9 @@ ghost use Rattle.tag_c.specs.Lent.{Lent};
 
 use rules::{Answer, Session, Stop};
 
-// The session that 54 bytes hold. `Lent` keeps what their type says: as many, and each below 256.
-fn session_of(bytes: &[u8]) -> Session
-    requires { length bytes.now ≡ 54 }
+// The session that 54 bytes hold. No `From` here or below: the type is of another crate. `Lent` keeps what their type says:
+// as many, and each below 256.
+fn session_of(bytes: &[u8; 54]) -> Session
     ensures { (result ≡ session_of bytes.now) × Lent bytes.now }
 {
     Session {
@@ -33,34 +33,28 @@ fn session_of(bytes: &[u8]) -> Session
 fn keep(bytes: &mut [u8; 54], session: Session)
     ensures { bytes.new ≡ session_bytes session }
 {
-    let name = session.name;
-    let id = session.id;
-    let pa = session.pa;
     octets::store16(bytes, 0, session.read);
     octets::store16(bytes, 2, session.write);
     octets::store16(bytes, 4, session.edit);
-    octets::store_at(bytes, 6, &name);
-    octets::store_at(bytes, 22, &id);
-    octets::store_at(bytes, 38, &pa);
+    octets::store_at(bytes, 6, &session.name);
+    octets::store_at(bytes, 22, &session.id);
+    octets::store_at(bytes, 38, &session.pa);
 }
 
+// An answer is a number for C alone.
 fn number_of(answer: Answer) -> u8
     ensures { result ≡ code_of (refusal_of answer) }
 {
     match answer {
-        Answer::Done => 0,
-        Answer::Refused(refusal) => command_log::number_of(refusal),
+        Ok(()) => 0,
+        Err(refusal) => command_log::number_of(refusal),
     }
 }
 
 fn number_of_stop(stop: Stop) -> u8
     ensures { result ≡ code_of (stop_number stop) }
 {
-    match stop {
-        Stop::End => 0,
-        Stop::BadCommand => 15,
-        Stop::OutputFull => 16,
-    }
+    stop as u8
 }
 
 #[unsafe(no_mangle)]
@@ -83,8 +77,7 @@ pub extern "C" fn dringoleth_read(
 {
     let before = session_of(session);
     let outcome = tag::read(tag, before, address, count, output);
-    let answer = outcome.answer;
-    number_of(answer)
+    number_of(outcome.answer)
 }
 
 #[unsafe(no_mangle)]
@@ -98,10 +91,8 @@ pub extern "C" fn dringoleth_write(
 {
     let before = session_of(session);
     let outcome = tag::write(tag, before, address, data);
-    let answer = outcome.answer;
-    let after = outcome.session;
-    keep(session, after);
-    number_of(answer)
+    keep(session, outcome.session);
+    number_of(outcome.answer)
 }
 
 #[unsafe(no_mangle)]
@@ -110,8 +101,7 @@ pub extern "C" fn dringoleth_advance(tag: &mut [u8], session: &[u8; 54], segment
 {
     let before = session_of(session);
     let outcome = tag::advance(tag, before, segment);
-    let answer = outcome.answer;
-    number_of(answer)
+    number_of(outcome.answer)
 }
 
 #[unsafe(no_mangle)]
@@ -126,8 +116,7 @@ pub extern "C" fn dringoleth_insert(
     let before = session_of(session);
     let host = octets::sixteen(id);
     let outcome = tag::insert(tag, before, segment, host);
-    let answer = outcome.answer;
-    number_of(answer)
+    number_of(outcome.answer)
 }
 
 #[unsafe(no_mangle)]
@@ -144,10 +133,8 @@ pub extern "C" fn dringoleth_run(
 {
     let before = session_of(session);
     let run = tag::run(tag, before, log, output);
-    let last = run.session;
-    let stop = run.stop;
-    keep(session, last);
+    keep(session, run.session);
     *bytes_read = run.read;
     *bytes_written = run.written;
-    number_of_stop(stop)
+    number_of_stop(run.stop)
 }

@@ -1,17 +1,19 @@
 -- What the bytes of a well-formed unit say, and what callers learn of a decoded one.
-use Prim.Native.Nat.{ℕ, zero, suc, ◌+◌, ◌*◌, ◌/◌, ◌%◌, ◌≤◌, ◌<◌}
+use Rattle.std.specs.Prelude.{Some, None}
+use Rattle.std.specs.Bool.{then_some}
+use Prim.Native.Nat.{ℕ, zero, suc, ◌+◌, ◌*◌, ◌/◌, ◌%◌, ◌<◌}
 use mathlib.Core.Path.{◌≡◌, refl, sym, ap, subst, ◌∙◌}
 use mathlib.Core.Logic.{◌≢◌}
 use mathlib.Core.Bool.{Bool, true, false, ◌&&◌, not, cond, and_assoc, and-true as and_right, and-false}
 use mathlib.Core.List.{List, [], ◌∷◌}
 use native.Mathlib.Omega.{arith}
 use native.Mathlib.Nat.{mod-lt}
-use types.Run.{OneOf, miss}
-use denote.Enum.Declared.{tag_of}
-use lib.ListN.{length, set}
+use lib.ListN.{set}
 use lib.Seq.{set-get_or}
 use lib.Dec.{eqb, leb}
 use borrow.Author.Tests.{eq-eqb, ne_eqb, lt-leb}
+use Rattle.rules.specs.declared.Stage.{Stage}
+use Rattle.rules.specs.declared.KeyStage.{KeyStage}
 use Rattle.rules.specs.declared.Model.{Model}
 use Rattle.rules.specs.declared.Model.TheVariants.{Default, WriteOnce, Counter, Receiver, SharedKey}
 use Rattle.rules.specs.declared.Unit.{Unit}
@@ -19,13 +21,10 @@ use Rattle.rules.specs.Bytes.{byte, part, number, zeros, all, put}
 use Rattle.rules.specs.Units.{bit, rfu, model_no, stage_no, model_fits, model_of, model_formed}
 use Rattle.rules.specs.Units.{well_formed, formedness, unit_of, unit_bytes}
 use Rattle.rules.specs.Map.{unit_at}
-use Rattle.rules.specs.Refusals.{is_receiver, is_shared_key, is_filling, is_inserted, past_stage_zero, same_bool, keeps_model, edit_allowed}
-use Rattle.rules.specs.contracts.Model as the-model
+use Rattle.rules.specs.Refusals.{is_receiver, is_shared_key, past_stage_zero, same_bool, keeps_model, edit_allowed}
 use Rattle.rules.proofs.BytesLaws.{byte-part}
-use Rattle.octets.proofs.Laws.{put_two, length_lent}
-use Rattle.units.specs.declared.Decoded.TheVariants.{Unit as Whole, Malformed}
-use Rattle.units.specs.declared.ModelRead.TheVariants.{Known, Unknown}
-use Rattle.units.specs.Decoded.{decoded, model_read}
+use Rattle.octets.proofs.Laws.{put_two}
+use Rattle.units.specs.Decoded.{decoded}
 
 clash : {A : Type 0} → ◌≡◌ {A = ℕ} 0 1 → A
 clash e = absurd (omega arith)
@@ -70,14 +69,14 @@ keeps_model_is u w = simp (all-joined, all_one, low_bit, same_bits)
 -- ---- the model of a unit
 
 -- with M clear
-pub model_default : (u : List ℕ) → byte 0 u % 2 ≢ 1 → model_read (model_formed u) (unit_of u).model ≡ Known Default
+pub model_default : (u : List ℕ) → byte 0 u % 2 ≢ 1 → then_some (model_formed u) (unit_of u).model ≡ Some Default
 unfolding unit_of
 model_default u e = rw (low_bit (byte 0 u), ne_eqb _ _ e)
 
 -- with M set
 pub model_named : (u : List ℕ) → byte 0 u % 2 ≡ 1
-    → model_read (model_formed u) (unit_of u).model
-    ≡ model_read (model_fits (model_no u) (stage_no u) (bit 7 (byte 0 u)) (bit 5 (byte 0 u))) (model_of (model_no u) (stage_no u))
+    → then_some (model_formed u) (unit_of u).model
+    ≡ then_some (model_fits (model_no u) (stage_no u) (bit 7 (byte 0 u)) (bit 5 (byte 0 u))) (model_of (model_no u) (stage_no u))
 unfolding unit_of
 model_named u e = rw (low_bit (byte 0 u), eq-eqb _ _ e)
 
@@ -109,7 +108,7 @@ fits_none (suc (suc (suc (suc zero)))) g rd wr n =
 fits_none (suc (suc (suc (suc (suc m))))) g rd wr n = refl
 
 pub model_none : (u : List ℕ) → byte 0 u % 2 ≡ 1 → Nameless (byte 1 u)
-    → model_read (model_formed u) (unit_of u).model ≡ Unknown
+    → then_some (model_formed u) (unit_of u).model ≡ None
 model_none u e n =
     let w : byte 1 u ≡ model_no u + 16 * stage_no u = omega arith in
     model_named u e ∙ rw (fits_none (model_no u) (stage_no u) _ _ (subst Nameless w n))
@@ -130,86 +129,62 @@ well_formed_is u = simp (all-joined, all_one)
 pub well_formed_but_model : (u : List ℕ) → model_formed u ≡ true → well_formed u ≡ other_tests u
 well_formed_but_model u e = well_formed_is u ∙ ap (λ b. other_tests u && b) e ∙ and_right (other_tests u)
 
-known_is : (b : Bool) (n m : Model) → model_read b n ≡ Known m → (b ≡ true) × (m ≡ n)
-known_is true n m e = (refl, cc)
-known_is false n m e = clash (cc)
-
-pub known_model : (u : List ℕ) (m : Model) → model_read (model_formed u) (unit_of u).model ≡ Known m
-    → (model_formed u ≡ true) × (m ≡ (unit_of u).model)
-known_model u m e = known_is (model_formed u) (unit_of u).model m e
-
-unknown_is : (b : Bool) (n : Model) → model_read b n ≡ Unknown → b ≡ false
+unknown_is : (b : Bool) (n : Model) → then_some b n ≡ None → b ≡ false
 unknown_is true n e = clash (cc)
 unknown_is false n e = refl
 
-pub decoded_unknown : (u : List ℕ) → model_read (model_formed u) (unit_of u).model ≡ Unknown → decoded u ≡ Malformed
+pub decoded_unknown : (u : List ℕ) → then_some (model_formed u) (unit_of u).model ≡ None → decoded u ≡ None
 unfolding decoded
 decoded_unknown u f =
     rw (well_formed_is u, unknown_is (model_formed u) (unit_of u).model f, and-false (other_tests u))
 
 -- ---- what a caller learns of a decoded unit
 
-whole_is : (b : Bool) (x y : Unit) → cond b (Whole y) Malformed ≡ Whole x → (b ≡ true) × (x ≡ y)
+whole_is : (b : Bool) (x y : Unit) → then_some b y ≡ Some x → (b ≡ true) × (x ≡ y)
 whole_is true x y e = (refl, cc)
 whole_is false x y e = clash (cc)
 
-pub decoded_whole : (u : List ℕ) (x : Unit) → decoded u ≡ Whole x → (well_formed u ≡ true) × (x ≡ unit_of u)
+pub decoded_whole : (u : List ℕ) (x : Unit) → decoded u ≡ Some x → (well_formed u ≡ true) × (x ≡ unit_of u)
 unfolding decoded
 decoded_whole u x e = whole_is (well_formed u) x (unit_of u) e
 
-pub decoded_malformed : (u : List ℕ) → decoded u ≡ Malformed → well_formed u ≡ false
+pub decoded_malformed : (u : List ℕ) → decoded u ≡ None → well_formed u ≡ false
 unfolding decoded
 decoded_malformed u e = by (well_formed u) e
   where
-    by : (b : Bool) → cond b (Whole (unit_of u)) Malformed ≡ Malformed → b ≡ false
+    by : (b : Bool) → then_some b (unit_of u) ≡ None → b ≡ false
     by true e = clash (cc)
     by false e = refl
 
 -- ---- edits
 
--- the variants of `Model` but `Receiver`
-pub no_receiver : (m : Model) → OneOf (0 ∷ 1 ∷ 2 ∷ 4 ∷ []) (tag_of the-model.the_type m) → is_receiver m ≡ false
+pub no_receiver : (m : Model) → ((g : Stage) → m ≢ Receiver g) → is_receiver m ≡ false
 unfolding is_receiver
-no_receiver Default o = refl
-no_receiver WriteOnce o = refl
-no_receiver Counter o = refl
-no_receiver (Receiver g) o = absurd (miss (0 ∷ 1 ∷ 2 ∷ 4 ∷ []) 3 tt o)
-no_receiver (SharedKey g) o = refl
+no_receiver Default n = refl
+no_receiver WriteOnce n = refl
+no_receiver Counter n = refl
+no_receiver (Receiver g) n = absurd (n g refl)
+no_receiver (SharedKey g) n = refl
 
--- and by one for `SharedKey`
-pub not_shared : (m : Model) → OneOf (0 ∷ 1 ∷ 2 ∷ 3 ∷ []) (tag_of the-model.the_type m)
-    → (is_shared_key m ≡ false) × (is_filling m ≡ false) × (is_inserted m ≡ false)
-unfolding is_shared_key is_filling is_inserted
-not_shared Default o = (refl, refl, refl)
-not_shared WriteOnce o = (refl, refl, refl)
-not_shared Counter o = (refl, refl, refl)
-not_shared (Receiver g) o = (refl, refl, refl)
-not_shared (SharedKey g) o = absurd (miss (0 ∷ 1 ∷ 2 ∷ 3 ∷ []) 4 tt o)
+pub not_shared : (m : Model) → ((g : KeyStage) → m ≢ SharedKey g) → is_shared_key m ≡ false
+unfolding is_shared_key
+not_shared Default n = refl
+not_shared WriteOnce n = refl
+not_shared Counter n = refl
+not_shared (Receiver g) n = refl
+not_shared (SharedKey g) n = absurd (n g refl)
 
--- those without a stage
-pub no_stage : (m : Model) → OneOf (0 ∷ 1 ∷ 2 ∷ []) (tag_of the-model.the_type m) → past_stage_zero m ≡ false
-unfolding past_stage_zero
-no_stage Default o = refl
-no_stage WriteOnce o = refl
-no_stage Counter o = refl
-no_stage (Receiver g) o = absurd (miss (0 ∷ 1 ∷ 2 ∷ []) 3 tt o)
-no_stage (SharedKey g) o = absurd (miss (0 ∷ 1 ∷ 2 ∷ []) 4 tt o)
-
-pub edit_allowed_is : (m : Model) (u w : List ℕ) (x : Unit) → decoded w ≡ Whole x
+pub edit_allowed_is : (m : Model) (u w : List ℕ) (x : Unit) → decoded w ≡ Some x
     → edit_allowed m u w ≡ cond (is_receiver m) (keeps_model u w) (not (past_stage_zero x.model))
 unfolding edit_allowed
 edit_allowed_is m u w x e =
     let d = decoded_whole w x e in rw (d.0, d.1) (all-joined true _ [] ∙ all_one _)
 
-pub edit_malformed : (m : Model) (u w : List ℕ) → decoded w ≡ Malformed → edit_allowed m u w ≡ false
+pub edit_malformed : (m : Model) (u w : List ℕ) → decoded w ≡ None → edit_allowed m u w ≡ false
 unfolding edit_allowed all
 edit_malformed m u w e = rw (decoded_malformed w e)
 
 -- ---- the bytes of unit k in the tag t
-
-pub unit_length : (t : List ℕ) (k : ℕ) (u : List ℕ) → u ≡ unit_bytes t k → unit_at k + 32 ≤ length t → length u ≡ 32
-unfolding unit_bytes
-unit_length t k u e h = ap length e ∙ length_lent (unit_at k) 32 t h
 
 pub unit_byte : (t : List ℕ) (k : ℕ) → byte 0 (unit_bytes t k) ≡ byte (unit_at k) t
 unfolding unit_bytes

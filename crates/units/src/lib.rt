@@ -9,63 +9,39 @@ ghost use Rattle.rules.specs.Units.{model_formed, name_of, unit_of, well_formed}
 ghost use Rattle.rules.specs.Answers.{refusal_of};
 ghost use Rattle.rules.specs.Refusals.{edit_allowed, is_filling, is_inserted, keeps_model, lowest, past_stage_zero};
 ghost use Rattle.rules.specs.Effects.{advanced, inserted, read_only};
-ghost use Rattle.units.specs.Decoded.{decoded, model_read};
+ghost use Rattle.std.specs.Bool.{then_some};
+ghost use Rattle.units.specs.Decoded.{decoded};
 ghost use Rattle.units.specs.Rights.{rights};
 
 use rules::{Answer, KeyStage, Model, Refusal, Stage, Unit};
 
-// A unit's bytes, read: the unit, if they are well formed.
-#[derive(Clone, Copy)]
-pub enum Decoded {
-    Unit(Unit),
-    Malformed,
-}
-
-// A unit's model, if control byte and model byte fit together.
-#[derive(Clone, Copy)]
-enum ModelRead {
-    Known(Model),
-    Unknown,
-}
-
-fn known(fits: bool, model: Model) -> ModelRead
-    ensures { result ≡ model_read fits model }
-{
-    if fits {
-        ModelRead::Known(model)
-    } else {
-        ModelRead::Unknown
-    }
-}
-
 // The model that byte 1 names, with M, RD and WR in the control byte. The stage stands in the high four bits.
-fn model_of(unit: &[u8]) -> ModelRead
-    requires { length unit.now ≡ 32 }
-    ensures { result ≡ model_read (model_formed unit.now) (unit_of unit.now).model }
+fn model_of(unit: &[u8; 32]) -> Option<Model>
+    ensures { result ≡ then_some (model_formed unit.now) (unit_of unit.now).model }
 {
     let control = unit[0];
     if control % 2 != 1 {
-        return ModelRead::Known(Model::Default);
+        return Some(Model::Default);
     }
     let rd = control / 128 % 2 == 1;
     let wr = control / 32 % 2 == 1;
     let byte = unit[1];
     match byte {
-        0x00 => ModelRead::Known(Model::Default),
-        0x01 => known((rd & !wr) | (!rd & wr), Model::WriteOnce),
-        0x02 => known(rd & wr, Model::Counter),
-        0x03 => known(!rd & wr, Model::Receiver(Stage::Zero)),
-        0x13 => known(!rd & wr, Model::Receiver(Stage::One)),
-        0x23 => known(rd & !wr, Model::Receiver(Stage::Two)),
-        0x04 => known(!rd & wr, Model::SharedKey(KeyStage::Filling)),
-        0x14 => known(rd & !wr, Model::SharedKey(KeyStage::Inserted)),
-        _ => ModelRead::Unknown,
+        0x00 => Some(Model::Default),
+        0x01 => ((rd & !wr) | (!rd & wr)).then_some(Model::WriteOnce),
+        0x02 => (rd & wr).then_some(Model::Counter),
+        0x03 => (!rd & wr).then_some(Model::Receiver(Stage::Zero)),
+        0x13 => (!rd & wr).then_some(Model::Receiver(Stage::One)),
+        0x23 => (rd & !wr).then_some(Model::Receiver(Stage::Two)),
+        0x04 => (!rd & wr).then_some(Model::SharedKey(KeyStage::Filling)),
+        0x14 => (rd & !wr).then_some(Model::SharedKey(KeyStage::Inserted)),
+        _ => None,
     }
 }
 
 // Whether a unit is well formed, if its model is: RFU, the zero bytes, the indexes.
-fn well_formed(unit: &[u8]) -> bool
-    requires { (length unit.now ≡ 32) × (model_formed unit.now ≡ true) }
+fn well_formed(unit: &[u8; 32]) -> bool
+    requires { model_formed unit.now ≡ true }
     ensures { result ≡ well_formed unit.now }
 {
     (unit[0] / 2 % 2 != 1)
@@ -76,9 +52,10 @@ fn well_formed(unit: &[u8]) -> bool
         & octets::all_zero(&unit[10..16])
 }
 
-// The unit of these bytes, whose model this is.
-fn unit_of(unit: &[u8], model: Model) -> Unit
-    requires { (length unit.now ≡ 32) × (model ≡ (unit_of unit.now).model) }
+// The unit of these bytes, whose model this is. RDPIN and WRPIN stay beside their indexes, and do not make options of them:
+// an index over 255 makes a unit malformed whatever they say.
+fn unit_of(unit: &[u8; 32], model: Model) -> Unit
+    requires { model ≡ (unit_of unit.now).model }
     ensures { result ≡ unit_of unit.now }
 {
     let control = unit[0];
@@ -96,23 +73,16 @@ fn unit_of(unit: &[u8], model: Model) -> Unit
     }
 }
 
-// The unit that 32 bytes hold.
-pub fn decode(unit: &[u8]) -> Decoded
-    requires { length unit.now ≡ 32 }
+// The unit that 32 bytes hold, if they are well formed.
+pub fn decode(unit: &[u8; 32]) -> Option<Unit>
     ensures { result ≡ decoded unit.now }
 {
-    let ModelRead::Known(model) = model_of(unit) else {
-        return Decoded::Malformed;
-    };
-    if !well_formed(unit) {
-        return Decoded::Malformed;
-    }
-    Decoded::Unit(unit_of(unit, model))
+    let model = model_of(unit)?;
+    well_formed(unit).then_some(unit_of(unit, model))
 }
 
 // Whether M, RD, WR and byte 1 stay.
-fn keeps_model(old: &[u8], new: &[u8]) -> bool
-    requires { (length old.now ≡ 32) × (length new.now ≡ 32) }
+fn keeps_model(old: &[u8; 32], new: &[u8; 32]) -> bool
     ensures { result ≡ keeps_model old.now new.now }
 {
     (old[0] % 2 == new[0] % 2)
@@ -122,6 +92,7 @@ fn keeps_model(old: &[u8], new: &[u8]) -> bool
 }
 
 // Whether an edit may bring a unit to this model: of models 3 and 4 only to their stage 0.
+#[tactic(auto, unfolding(rules::specs::Refusals::past_stage_zero))]
 fn may_become(model: Model) -> bool
     ensures { result ≡ not (past_stage_zero model) }
 {
@@ -140,18 +111,16 @@ fn may_become(model: Model) -> bool
 }
 
 // Whether an edit may turn a unit of this model, with bytes `old`, into `new`.
-pub fn edit_allowed(model: Model, old: &[u8], new: &[u8]) -> bool
-    requires { (length old.now ≡ 32) × (length new.now ≡ 32) }
+pub fn edit_allowed(model: Model, old: &[u8; 32], new: &[u8; 32]) -> bool
     ensures { result ≡ edit_allowed model old.now new.now }
 {
-    let Decoded::Unit(unit) = decode(new) else {
+    let Some(next) = decode(new) else {
         return false;
     };
-    let Model::Receiver(_) = model else {
-        let next = unit.model;
-        return may_become(next);
-    };
-    keeps_model(old, new)
+    match model {
+        Model::Receiver(_) => keeps_model(old, new),
+        _ => may_become(next.model),
+    }
 }
 
 // The control byte with RD set and WR cleared.
@@ -161,7 +130,8 @@ pub fn read_only(control: u8) -> u8
     128 + 64 * (control / 64 % 2) + control % 32
 }
 
-// A unit of model 3 goes from this stage to the next.
+// A unit of model 3 goes from this stage to the next. This and the two below are lent their 32 bytes as a slice: what a tag
+// holds after a part of it was lent as an array has no proof.
 pub fn advance(unit: &mut [u8], stage: Stage)
     requires { length unit.old ≡ 32 }
     ensures { unit.new ≡ put 0 (advanced stage unit.old) unit.old }
@@ -178,30 +148,20 @@ pub fn advance(unit: &mut [u8], stage: Stage)
     }
 }
 
-// Whether it is model 4, before the insertion of its host.
+// Whether it is model 4, before the insertion of its host. This test and the next are two, as the rules name them.
+#[tactic(auto, unfolding(rules::specs::Refusals::is_filling))]
 pub fn is_filling(model: Model) -> bool
     ensures { result ≡ is_filling model }
 {
-    let Model::SharedKey(stage) = model else {
-        return false;
-    };
-    match stage {
-        KeyStage::Filling => true,
-        KeyStage::Inserted => false,
-    }
+    matches!(model, Model::SharedKey(KeyStage::Filling))
 }
 
 // Whether it is model 4, after it.
+#[tactic(auto, unfolding(rules::specs::Refusals::is_inserted))]
 pub fn is_inserted(model: Model) -> bool
     ensures { result ≡ is_inserted model }
 {
-    let Model::SharedKey(stage) = model else {
-        return false;
-    };
-    match stage {
-        KeyStage::Filling => false,
-        KeyStage::Inserted => true,
-    }
+    matches!(model, Model::SharedKey(KeyStage::Inserted))
 }
 
 // A unit of model 4 goes from stage 0 to stage 1, and is read only from then on.
@@ -224,8 +184,7 @@ pub fn edit(unit: &mut [u8], offset: usize, data: &[u8])
 // ---- the rights that a unit gives
 
 // Whether a name is the unit's.
-pub fn named(unit: &[u8], name: &[u8]) -> bool
-    requires { length unit.now ≡ 32 }
+pub fn named(unit: &[u8; 32], name: &[u8]) -> bool
     ensures { result ≡ same name.now (name_of unit.now) }
 {
     octets::equal(name, &unit[16..32])
@@ -236,13 +195,13 @@ pub fn judge_rights(forbidden: bool, pin: bool, name: bool) -> Answer
     ensures { refusal_of result ≡ lowest (rights forbidden pin name) }
 {
     if forbidden {
-        return Answer::Refused(Refusal::Forbidden);
+        return Err(Refusal::Forbidden);
     }
     if pin {
-        return Answer::Refused(Refusal::OtherPin);
+        return Err(Refusal::OtherPin);
     }
     if name {
-        return Answer::Refused(Refusal::OtherName);
+        return Err(Refusal::OtherName);
     }
-    Answer::Done
+    Ok(())
 }

@@ -1,54 +1,31 @@
 // Prints what the cipher makes of published and of long blocks, words low byte first. The expected output is in stdout.
 #![tactic(auto)]
 
-use std::io::{self, Write};
-use xxtea::Answer;
+use std::{fmt, io};
 
 const WORD: u32 = 0x89AB_CDEF;
 
-fn print(rt: &impl Print, text: &[u8]) -> io::Result<()> {
-    io::writer(rt).write_all(text)
-}
+// Words as hexadecimal digits, each low byte first.
+#[derive(Clone, Copy)]
+struct Hex<'a>(&'a [u32]);
 
-fn print_word(rt: &impl Print, word: u32) -> io::Result<()> {
-    let swapped = word % 256 * 0x100_0000
-        + word / 256 % 256 * 0x1_0000
-        + word / 0x1_0000 % 256 * 256
-        + word / 0x100_0000;
-    print!(rt; "{swapped:08x}")
-}
-
-fn print_words(rt: &impl Print, words: &[u32]) -> io::Result<()> {
-    for word in words {
-        print_word(rt, *word)?;
+impl fmt::Display for Hex<'_> {
+    fn fmt<W: fmt::Write>(&self, f: &mut fmt::Formatter<W>) -> fmt::Result {
+        for word in self.0 {
+            write!(f, "{:08x}", word.swap_bytes())?;
+        }
+        Ok(())
     }
-    Ok(())
-}
-
-fn all_are(words: &[u32], word: u32) -> bool {
-    let mut i = 0;
-    let mut all = true;
-    while i < words.len() {
-        all = all & (words[i] == word);
-        i += 1;
-    }
-    all
 }
 
 // A published vector: two words, enciphered and deciphered again.
 fn vector(rt: &impl Print, key: [u32; 4], data: [u32; 2]) -> io::Result<()> {
     let mut words = data;
-    print(rt, b"key ")?;
-    print_words(rt, &key)?;
-    print(rt, b" data ")?;
-    print_words(rt, &words)?;
-    xxtea::encipher(&mut words, key);
-    print(rt, b" enciphered ")?;
-    print_words(rt, &words)?;
-    xxtea::decipher(&mut words, key);
-    print(rt, b" deciphered ")?;
-    print_words(rt, &words)?;
-    print(rt, b"\n")
+    print!(rt; "key {} data {}", Hex(&key), Hex(&words))?;
+    xxtea::encipher(&mut words, key).unwrap();
+    print!(rt; " enciphered {}", Hex(&words))?;
+    xxtea::decipher(&mut words, key).unwrap();
+    println!(rt; " deciphered {}", Hex(&words))
 }
 
 // A block of words that are all WORD; a refused one is not printed again.
@@ -57,17 +34,14 @@ fn block(rt: &impl Print, words: &mut [u32], key: [u32; 4]) -> io::Result<()> {
     let rounds = xxtea::rounds_for(n);
     print!(rt; "words {n} rounds {rounds}")?;
     match xxtea::encipher(words, key) {
-        Answer::Done => {
-            print(rt, b" enciphered ")?;
-            print_words(rt, words)?;
-        }
-        Answer::Refused => print(rt, b" refused")?,
+        Ok(()) => print!(rt; " enciphered {}", Hex(words))?,
+        Err(_) => print!(rt; " refused")?,
     }
-    xxtea::decipher(words, key);
-    if all_are(words, WORD) {
-        print(rt, b" restored\n")
+    let _ = xxtea::decipher(words, key);
+    if words.iter().all(|word| *word == WORD) {
+        println!(rt; " restored")
     } else {
-        print(rt, b" lost\n")
+        println!(rt; " lost")
     }
 }
 

@@ -1,13 +1,11 @@
--- A verdict that is carried out leaves the tag and the session that the rules say. Assumes nothing.
+-- A write that is carried out leaves the tag and the session that the rules say. Assumes nothing.
+use Rattle.std.specs.Prelude.{None, Some, Ok, Err}
 use Prim.Native.Nat.{ℕ, ◌+◌, ◌≤◌, ◌<◌}
 use mathlib.Core.Path.{◌≡◌, refl, sym, ap, ◌∙◌, subst}
-use mathlib.Core.Logic.{◌⊎◌, inl, inr}
+use mathlib.Core.Logic.{◌≢◌, ◌⊎◌, inl, inr}
 use mathlib.Core.Bool.{true}
 use mathlib.Core.List.{List, [], ◌∷◌}
-use mathlib.Core.Option.{Option, none, some}
 use native.Mathlib.Omega.{arith}
-use types.Run.{OneOf, miss}
-use denote.Enum.Declared.{tag_of}
 use lib.ListN.{length}
 use borrow.Author.Tests.{not-false, eqb-true, leb-true}
 use Rattle.rules.specs.declared.Session.{Session}
@@ -20,90 +18,66 @@ use Rattle.rules.specs.declared.Place.{Place}
 use Rattle.rules.specs.declared.Place.TheVariants.{Header, Hidden, RegisterOf, Pins, Readers, UnitOf, Spare, Segment, Public}
 use Rattle.rules.specs.declared.Refusal.{Refusal}
 use Rattle.rules.specs.declared.Refusal.TheVariants as refusal
-use Rattle.rules.specs.declared.Answer.TheVariants.{Done}
 use Rattle.rules.specs.Bytes.{part}
 use Rattle.rules.specs.Map.{sound, place_of, unit_at}
 use Rattle.rules.specs.Units.{unit_bytes}
 use Rattle.rules.specs.State.{State, state, pin_index, owner_index}
-use Rattle.rules.specs.Answers.{refusal_of, number_of}
+use Rattle.rules.specs.Answers.{number_of}
 use Rattle.rules.specs.Refusals.{lowest, write_checks, register_checks, block_checks, name_checks, commit_checks}
 use Rattle.rules.specs.Effects.{Store, ◌↤◌, apply, stored, write_move, register_stores, register_session, write_stores, write_session, refusal_stores}
 use Rattle.rules.specs.Command.{write, refusal as refused-by, checks, after, after_by, new_session, session_in}
-use Rattle.rules.proofs.Tests.{some_none, same_some, passes}
+use Rattle.rules.proofs.Tests.{some_none, passes, same_ok}
 use Rattle.rules.proofs.Places.{the_map}
 use Rattle.rules.proofs.MapLaws.{sound_long}
 use Rattle.rules.proofs.Refused.{eleven_or_none}
 use Rattle.rules.proofs.Grants.{granted_write, stores_write, commit_facts}
 use Rattle.units.proofs.Laws.{unit_byte}
 use Rattle.octets.proofs.Laws.{xor_swap, length_lent}
-use Rattle.writes.specs.declared.judging.Verdict.{Verdict}
-use Rattle.writes.specs.declared.judging.Verdict.TheVariants as verdict
+use Rattle.writes.specs.declared.judging.Act.{Act}
+use Rattle.writes.specs.declared.judging.Act.TheVariants as act
 use Rattle.xxtea.specs.Block.{E}
-use Rattle.writes.specs.Verdict.{WriteJudged, answer_of, act_of, act_in, act_at, stores_by, Fits}
+use Rattle.writes.specs.Verdict.{WriteJudged, act_of, act_in, act_at, stores_by, Fits}
 use Rattle.registers.specs.Registers.{Taken}
 use Rattle.layout.proofs.Laws.{unit_found, segment_found}
-use Rattle.rules.specs.contracts.Refusal as the-refusal
-use Rattle.writes.specs.contracts.judging.Verdict as the-verdict
 
 clash : {A : Type 0} → ◌≡◌ {A = ℕ} 0 1 → A
 clash e = absurd (omega arith)
 
--- a verdict's stores, those of a register too, and its session
-unfoldable pub made_by : Verdict → State → ℕ → List ℕ → List Store
-made_by verdict.Store s a bs = stores_by verdict.Store s.tag a bs
-made_by verdict.Xor s a bs = stores_by verdict.Xor s.tag a bs
-made_by (verdict.StoreOnce k) s a bs = stores_by (verdict.StoreOnce k) s.tag a bs
-made_by (verdict.Edit k) s a bs = stores_by (verdict.Edit k) s.tag a bs
-made_by verdict.NextCount s a bs = stores_by verdict.NextCount s.tag a bs
-made_by (verdict.Take r) s a bs = register_stores E s r bs
-made_by (verdict.Refuse r) s a bs = stores_by (verdict.Refuse r) s.tag a bs
+-- a granted write's stores, those of a register too, and its session
+unfoldable pub made_by : Act → State → ℕ → List ℕ → List Store
+made_by act.Store s a bs = stores_by act.Store s.tag a bs
+made_by act.Xor s a bs = stores_by act.Xor s.tag a bs
+made_by (act.StoreOnce k) s a bs = stores_by (act.StoreOnce k) s.tag a bs
+made_by (act.Edit k) s a bs = stores_by (act.Edit k) s.tag a bs
+made_by act.NextCount s a bs = stores_by act.NextCount s.tag a bs
+made_by (act.Take r) s a bs = register_stores E s r bs
 
-unfoldable pub session_by : Verdict → State → List ℕ → Session
-session_by verdict.Store s bs = s.session
-session_by verdict.Xor s bs = s.session
-session_by (verdict.StoreOnce k) s bs = s.session
-session_by (verdict.Edit k) s bs = s.session
-session_by verdict.NextCount s bs = s.session
-session_by (verdict.Take r) s bs = register_session E s r bs
-session_by (verdict.Refuse r) s bs = s.session
+unfoldable pub session_by : Act → State → List ℕ → Session
+session_by act.Store s bs = s.session
+session_by act.Xor s bs = s.session
+session_by (act.StoreOnce k) s bs = s.session
+session_by (act.Edit k) s bs = s.session
+session_by act.NextCount s bs = s.session
+session_by (act.Take r) s bs = register_session E s r bs
 
 -- where it is no register's write, these are the stores of `stores_by`, and the session stays
-abbrev pub others : List ℕ
-others = 0 ∷ 1 ∷ 2 ∷ 3 ∷ 4 ∷ 6 ∷ []
-
-pub not_taken : (v : Verdict) (s : State) (a : ℕ) (bs : List ℕ) → OneOf others (tag_of the-verdict.the_type v)
+pub not_taken : (v : Act) (s : State) (a : ℕ) (bs : List ℕ) → ((r : Register) → v ≢ act.Take r)
     → (made_by v s a bs ≡ stores_by v s.tag a bs) × (session_by v s bs ≡ s.session)
 unfolding made_by session_by
-not_taken verdict.Store s a bs m = (refl, refl)
-not_taken verdict.Xor s a bs m = (refl, refl)
-not_taken (verdict.StoreOnce k) s a bs m = (refl, refl)
-not_taken (verdict.Edit k) s a bs m = (refl, refl)
-not_taken verdict.NextCount s a bs m = (refl, refl)
-not_taken (verdict.Take r) s a bs m = absurd (miss others 5 tt m)
-not_taken (verdict.Refuse r) s a bs m = (refl, refl)
+not_taken act.Store s a bs n = (refl, refl)
+not_taken act.Xor s a bs n = (refl, refl)
+not_taken (act.StoreOnce k) s a bs n = (refl, refl)
+not_taken (act.Edit k) s a bs n = (refl, refl)
+not_taken act.NextCount s a bs n = (refl, refl)
+not_taken (act.Take r) s a bs n = absurd (n r refl)
 
--- ---- the `_` of a match: a verdict that is no refusal; a refusal that changes nothing
+-- ---- a refusal that changes nothing
 
-abbrev pub acting : List ℕ
-acting = 0 ∷ 1 ∷ 2 ∷ 3 ∷ 4 ∷ 5 ∷ []
-
-pub answer_done : (v : Verdict) → OneOf acting (tag_of the-verdict.the_type v) → answer_of v ≡ Done
-answer_done verdict.Store m = refl
-answer_done verdict.Xor m = refl
-answer_done (verdict.StoreOnce k) m = refl
-answer_done (verdict.Edit k) m = refl
-answer_done verdict.NextCount m = refl
-answer_done (verdict.Take r) m = refl
-answer_done (verdict.Refuse r) m = absurd (miss acting 6 tt m)
-
-abbrev pub quiets : List ℕ
-quiets = 0 ∷ 1 ∷ 2 ∷ 3 ∷ 4 ∷ 5 ∷ 6 ∷ 7 ∷ 8 ∷ 9 ∷ 11 ∷ 12 ∷ 13 ∷ 14 ∷ 15 ∷ 16 ∷ []
-
-pub quiet : (r : Refusal) → OneOf quiets (tag_of the-refusal.the_type r) → refusal_stores (number_of r) ≡ []
-quiet r m = by (eleven_or_none r)
+pub quiet : (r : Refusal) → r ≢ refusal.WrongResponse → refusal_stores (number_of r) ≡ []
+quiet r n = by (eleven_or_none r)
   where
     by : (r ≡ refusal.WrongResponse) ⊎ (refusal_stores (number_of r) ≡ []) → refusal_stores (number_of r) ≡ []
-    by (inl e) = absurd (miss quiets 10 tt (subst (λ q. OneOf quiets (tag_of the-refusal.the_type q)) e m))
+    by (inl e) = absurd (n e)
     by (inr e) = e
 
 -- ---- what a granted write stores in its place is what the rules say
@@ -132,8 +106,8 @@ module _ (s : State) (a : ℕ) (bs : List ℕ) where
   kept k (Receiver Two) = refl
   kept k (SharedKey g) = refl
 
-  granted_in : (p : Place) → sound s.tag ≡ true → place_of s.tag a (length bs) ≡ some p
-      → lowest (write_checks E s p a bs) ≡ none
+  granted_in : (p : Place) → sound s.tag ≡ true → place_of s.tag a (length bs) ≡ Some p
+      → lowest (write_checks E s p a bs) ≡ None
       → (made_by (act_in s.tag p) s a bs ≡ write_stores E s p a bs)
       × (session_by (act_in s.tag p) s bs ≡ write_session E s p bs)
   unfolding act_in made_by session_by stores_by write_stores write_session write_checks lowest
@@ -150,41 +124,23 @@ module _ (s : State) (a : ℕ) (bs : List ℕ) where
 
   -- ---- the state after a write
 
-  refused : (v : Verdict) (n : ℕ) → refusal_of (answer_of v) ≡ some n
-      → state (apply (made_by v s a bs) s.tag) (session_by v s bs) ≡ after_by (some n) E s (write a bs)
-  unfolding made_by session_by stores_by after_by
-  refused verdict.Store n e = some_none (sym e)
-  refused verdict.Xor n e = some_none (sym e)
-  refused (verdict.StoreOnce k) n e = some_none (sym e)
-  refused (verdict.Edit k) n e = some_none (sym e)
-  refused verdict.NextCount n e = some_none (sym e)
-  refused (verdict.Take r) n e = some_none (sym e)
-  refused (verdict.Refuse r) n e = ap (λ m. state (apply (refusal_stores m) s.tag) s.session) (same_some e)
+  pub refused_left : (r : Refusal) → WriteJudged s a bs (Err r)
+      → state (apply (refusal_stores (number_of r)) s.tag) s.session ≡ after E s (write a bs)
+  unfolding refused-by after after_by
+  refused_left r j = rw (← j.number)
 
-  pub left : (v : Verdict) → sound s.tag ≡ true → WriteJudged s a bs v
+  pub left : (v : Act) → sound s.tag ≡ true → WriteJudged s a bs (Ok v)
       → state (apply (made_by v s a bs) s.tag) (session_by v s bs) ≡ after E s (write a bs)
   unfolding refused-by after after_by new_session session_in
-  left v w j = by (lowest (checks E s (write a bs))) refl
-    where
-      by : (o : Option ℕ) → lowest (checks E s (write a bs)) ≡ o
-          → state (apply (made_by v s a bs) s.tag) (session_by v s bs) ≡ after_by o E s (write a bs)
-      by none e =
-          let g = granted_write E s a bs e in
-          let x = granted_in g.place w g.found g.free in
-          let is : v ≡ act_in s.tag g.place = j.granted e ∙ ap (act_at s.tag) g.found in
-          rw (is, x.0, x.1, stores_write E s a bs g.place g.found, g.found)
-      by (some n) e = refused v n (j.number ∙ e)
+  left v w j =
+      let e = sym j.number in
+      let g = granted_write E s a bs e in
+      let x = granted_in g.place w g.found g.free in
+      let is : v ≡ act_in s.tag g.place = same_ok (j.granted e) ∙ ap (act_at s.tag) g.found in
+      let after_granted : after_by (lowest (checks E s (write a bs))) E s (write a bs) ≡ after_by None E s (write a bs) = ap (λ o. after_by o E s (write a bs)) e in
+      rw (is, x.0, x.1) ((rw (stores_write E s a bs g.place g.found, g.found)) ∙ sym after_granted)
 
-  -- ---- what a verdict may be carried out on
-
-  fit_refused : (v : Verdict) (n : ℕ) → refusal_of (answer_of v) ≡ some n → Fits s.tag a bs v
-  fit_refused verdict.Store n e = some_none (sym e)
-  fit_refused verdict.Xor n e = some_none (sym e)
-  fit_refused (verdict.StoreOnce k) n e = some_none (sym e)
-  fit_refused (verdict.Edit k) n e = some_none (sym e)
-  fit_refused verdict.NextCount n e = some_none (sym e)
-  fit_refused (verdict.Take r) n e = tt
-  fit_refused (verdict.Refuse r) n e = tt
+  -- ---- what a granted write may be carried out on
 
   fit_segment : (k : ℕ) (m : Model) → a + length bs ≤ length s.tag → unit_at k < length s.tag
       → Fits s.tag a bs (act_of k m)
@@ -197,12 +153,12 @@ module _ (s : State) (a : ℕ) (bs : List ℕ) where
   fit_segment k (Receiver Two) l h = l
   fit_segment k (SharedKey g) l h = l
 
-  fit_in : (p : Place) → sound s.tag ≡ true → place_of s.tag a (length bs) ≡ some p
+  fit_in : (p : Place) → sound s.tag ≡ true → place_of s.tag a (length bs) ≡ Some p
       → Fits s.tag a bs (act_in s.tag p)
   unfolding act_in
   fit_in p w e = by p e ((the_map s.tag w).in_tag p a (length bs) e)
     where
-      by : (p : Place) → place_of s.tag a (length bs) ≡ some p → a + length bs ≤ length s.tag
+      by : (p : Place) → place_of s.tag a (length bs) ≡ Some p → a + length bs ≤ length s.tag
           → Fits s.tag a bs (act_in s.tag p)
       by Header e l = l
       by Hidden e l = l
@@ -217,21 +173,17 @@ module _ (s : State) (a : ℕ) (bs : List ℕ) where
           fit_segment k _ l (omega arith)
       by (Public k) e l = l
 
-  pub fit : (v : Verdict) → sound s.tag ≡ true
-      → WriteJudged s a bs v → Fits s.tag a bs v
+  pub fit : (v : Act) → sound s.tag ≡ true → WriteJudged s a bs (Ok v) → Fits s.tag a bs v
   unfolding refused-by
-  fit v w j = by (lowest (checks E s (write a bs))) refl
-    where
-      by : (o : Option ℕ) → lowest (checks E s (write a bs)) ≡ o → Fits s.tag a bs v
-      by none e =
-          let g = granted_write E s a bs e in
-          let is : v ≡ act_in s.tag g.place = j.granted e ∙ ap (act_at s.tag) g.found in
-          subst (Fits s.tag a bs) (sym is) (fit_in g.place w g.found)
-      by (some n) e = fit_refused v n (j.number ∙ e)
+  fit v w j =
+      let e = sym j.number in
+      let g = granted_write E s a bs e in
+      let is : v ≡ act_in s.tag g.place = same_ok (j.granted e) ∙ ap (act_at s.tag) g.found in
+      subst (Fits s.tag a bs) (sym is) (fit_in g.place w g.found)
 
   -- ---- a register's write has passed the register's checks
 
-  segment_takes_not : (k : ℕ) (m : Model) (r : Register) → act_of k m ≡ verdict.Take r → ⊥
+  segment_takes_not : (k : ℕ) (m : Model) (r : Register) → act_of k m ≡ act.Take r → ⊥
   unfolding act_of
   segment_takes_not k Default r e = clash (cc)
   segment_takes_not k WriteOnce r e = clash (cc)
@@ -241,7 +193,7 @@ module _ (s : State) (a : ℕ) (bs : List ℕ) where
   segment_takes_not k (Receiver Two) r e = clash (cc)
   segment_takes_not k (SharedKey g) r e = clash (cc)
 
-  register_taken : (p : Place) (r : Register) → act_in s.tag p ≡ verdict.Take r → p ≡ RegisterOf r
+  register_taken : (p : Place) (r : Register) → act_in s.tag p ≡ act.Take r → p ≡ RegisterOf r
   unfolding act_in
   register_taken Header r e = clash (cc)
   register_taken Hidden r e = clash (cc)
@@ -254,7 +206,7 @@ module _ (s : State) (a : ℕ) (bs : List ℕ) where
   register_taken (Public k) r e = clash (cc)
 
   Passed : Register → Type 0
-  Passed r = lowest (register_checks E s r bs) ≡ none
+  Passed r = lowest (register_checks E s r bs) ≡ None
 
   whole : (r : Register) → Passed r → length bs ≡ 16
   unfolding Passed register_checks
@@ -277,15 +229,15 @@ module _ (s : State) (a : ℕ) (bs : List ℕ) where
   pinned r e (inr q) = (commit_facts E s bs (subst Passed q e)).2
 
   pub taken : (r : Register) → sound s.tag ≡ true
-      → WriteJudged s a bs (verdict.Take r)
+      → WriteJudged s a bs (Ok (act.Take r))
       → Taken s.tag s.session r bs
   unfolding refused-by write_checks Passed
   taken r w j =
       let e = sym j.number in
       let g = granted_write E s a bs e in
-      let is = sym (j.granted e ∙ ap (act_at s.tag) g.found) in
+      let is = sym (same_ok (j.granted e) ∙ ap (act_at s.tag) g.found) in
       let p = register_taken g.place r is in
-      let e = subst (λ q. lowest (write_checks E s q a bs) ≡ none) p g.free in
+      let e = subst (λ q. lowest (write_checks E s q a bs) ≡ None) p g.free in
       let l = sound_long s.tag w in
       record {
         long = omega arith;

@@ -1,39 +1,35 @@
 -- Laws that the judges of writes share: the verdict that follows from the lowest refusal, and that a slot's alignment is
 -- that of its address. Assumes nothing.
+use Rattle.std.specs.Prelude.{None, Some, Ok, Err, IsErrAnd}
 use Prim.Native.Nat.{ℕ, ◌-◌, ◌%◌, ◌≤◌}
-use mathlib.Core.Path.{◌≡◌, refl, sym, ◌∙◌}
+use mathlib.Core.Path.{◌≡◌, refl, sym, subst, ◌∙◌}
 use mathlib.Core.List.{List}
-use mathlib.Core.Option.{none, some}
 use native.Mathlib.Omega.{arith}
 use Rattle.rules.specs.declared.Model.{Model}
 use Rattle.rules.specs.declared.Model.TheVariants.{Default, WriteOnce, Counter, Receiver, SharedKey}
 use Rattle.rules.specs.declared.Refusal.{Refusal}
-use Rattle.rules.specs.declared.Answer.{Answer}
-use Rattle.rules.specs.declared.Answer.TheVariants.{Done, Refused}
 use Rattle.rules.specs.Map.{segment_at}
 use Rattle.rules.specs.Units.{unit_of}
-use Rattle.rules.specs.Answers.{refusal_of, number_of}
+use Rattle.rules.specs.Answers.{number_of}
 use Rattle.rules.specs.Refusals.{Checks, lowest, slot_checks, segment_write_checks}
-use Rattle.rules.proofs.Tests.{some_none}
+use Rattle.rules.proofs.Tests.{some_none, handed_on}
 use Rattle.rules.proofs.MapLaws.{segments_aligned}
-use Rattle.writes.specs.declared.judging.Verdict.{Verdict}
-use Rattle.writes.specs.declared.judging.Verdict.TheVariants.{Refuse}
-use Rattle.writes.specs.Verdict.{Judged, answer_of, verdict_of}
+use Rattle.writes.specs.declared.judging.Act.{Act}
+use Rattle.writes.specs.Verdict.{Verdict, Judged}
 
-pub refuses : (cs : Checks) (act : Verdict) (r : Refusal) → lowest cs ≡ some (number_of r) → Judged cs act (Refuse r)
-refuses cs act r e = record { number = sym e; granted = λ f. some_none (sym e ∙ f) }
+pub refuses : (cs : Checks) (x : Act) (r : Refusal) → lowest cs ≡ Some (number_of r) → Judged cs x (Err r)
+refuses cs x r e = record { number = sym e; granted = λ f. some_none (sym e ∙ f) }
 
-pub acts : (cs : Checks) (act : Verdict) → answer_of act ≡ Done → lowest cs ≡ none → Judged cs act act
-acts cs act d e = record { number = cc; granted = λ f. refl }
+pub acts : (cs : Checks) (x : Act) → lowest cs ≡ None → Judged cs x (Ok x)
+acts cs x e = record { number = sym e; granted = λ f. refl }
 
--- an answer that is the lowest refusal, made a verdict
-pub judged : (cs : Checks) (act : Verdict) (a : Answer) → answer_of act ≡ Done → refusal_of a ≡ lowest cs
-    → Judged cs act (verdict_of a act)
-judged cs act Done d e = acts cs act d (sym e)
-judged cs act (Refused r) d e = refuses cs act r (sym e)
+-- the lowest refusal, handed on by `?`
+pub passed_on : (cs : Checks) (x : Act) (v : Verdict) (r : Refusal) → IsErrAnd v (λ q. q ≡ r)
+    → Some (number_of r) ≡ lowest cs → Judged cs x v
+passed_on cs x v r h e = subst (Judged cs x) (sym (handed_on v r h)) (refuses cs x r (sym e))
 
 -- the same verdict by other checks that give the same refusal
-pub judged_as : (cs ds : Checks) (act v : Verdict) → lowest cs ≡ lowest ds → Judged cs act v → Judged ds act v
+pub judged_as : (cs ds : Checks) (act : Act) (v : Verdict) → lowest cs ≡ lowest ds → Judged cs act v → Judged ds act v
 judged_as cs ds act v e j = record { number = j.number ∙ e; granted = λ f. j.granted (e ∙ f) }
 
 -- ---- a segment begins at a multiple of 8, so that an offset in it is aligned where the address is

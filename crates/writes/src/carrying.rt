@@ -1,4 +1,4 @@
-// A verdict on a write, carried out. Each leaf is handed the part of the tag that it changes.
+// A write that is judged, carried out. Each leaf is handed the part of the tag that it changes.
 ghost use Rattle.std.specs.Prelude.{◌≡◌, [], ◌∷◌, ◌+◌, ◌≤◌, ◌<◌, length};
 ghost use Rattle.rules.specs.Bytes.{byte, put};
 ghost use Rattle.rules.specs.Map.{unit_at};
@@ -6,11 +6,11 @@ ghost use Rattle.rules.specs.Answers.{number_of};
 ghost use Rattle.rules.specs.Effects.{apply, read_only, refusal_stores};
 ghost use Rattle.writes.specs.Verdict.{stores_by, Fits};
 
-use crate::judging::Verdict;
+use crate::judging::Act;
 use rules::Refusal;
 
 // A refusal changes nothing, except 11, which sets the flag.
-fn note_refusal(tag: &mut [u8], refusal: Refusal)
+pub fn note_refusal(tag: &mut [u8], refusal: Refusal)
     requires { 16 ≤ length tag.old }
     ensures { tag.new ≡ apply (refusal_stores (number_of refusal)) tag.old }
 {
@@ -40,21 +40,20 @@ fn edit_unit(tag: &mut [u8], k: usize, at: usize, data: &[u8])
     units::edit(&mut tag[start..end], at - start, data)
 }
 
-// A verdict, carried out, unless a register takes the write.
-pub fn carry_out(tag: &mut [u8], at: usize, data: &[u8], verdict: Verdict)
-    requires { (16 ≤ length tag.old) × Fits tag.old at «data».now verdict }
-    ensures { tag.new ≡ apply (stores_by verdict tag.old at «data».now) tag.old }
+// A granted write, carried out, unless a register takes it.
+pub fn carry_out(tag: &mut [u8], at: usize, data: &[u8], act: Act)
+    requires { (16 ≤ length tag.old) × Fits tag.old at «data».now act }
+    ensures { tag.new ≡ apply (stores_by act tag.old at «data».now) tag.old }
 {
-    match verdict {
-        Verdict::Store => octets::store(&mut tag[at..at + data.len()], data),
-        Verdict::Xor => octets::xor_into(&mut tag[at..at + data.len()], data),
-        Verdict::StoreOnce(k) => store_once(tag, at, data, k),
-        Verdict::Edit(k) => edit_unit(tag, k, at, data),
-        Verdict::NextCount => {
+    match act {
+        Act::Store => octets::store(&mut tag[at..at + data.len()], data),
+        Act::Xor => octets::xor_into(&mut tag[at..at + data.len()], data),
+        Act::StoreOnce(k) => store_once(tag, at, data, k),
+        Act::Edit(k) => edit_unit(tag, k, at, data),
+        Act::NextCount => {
             octets::store(&mut tag[at..at + data.len()], data);
             tag[layout::FLAG] = 0;
         }
-        Verdict::Take(_) => {}
-        Verdict::Refuse(r) => note_refusal(tag, r),
+        Act::Take(_) => {}
     }
 }

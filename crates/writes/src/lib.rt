@@ -6,47 +6,53 @@
 mod carrying;
 mod judging;
 
-ghost use Rattle.std.specs.Prelude.{◌≡◌, true};
+ghost use Rattle.std.specs.Prelude.{◌≡◌, true, Ok};
 ghost use Rattle.rules.specs.Map.{sound};
 ghost use Rattle.rules.specs.State.{state};
+ghost use Rattle.rules.specs.Command.{after};
 ghost use Rattle.rules.specs.Command as command;
+ghost use Rattle.writes.specs.Verdict.{WriteJudged};
 ghost use Rattle.rules.specs.Calls.{CarriedOut};
 ghost use Rattle.xxtea.specs.Block.{E};
-ghost use Rattle.writes.specs.Verdict.{answer_of};
 
-use judging::Verdict;
-use rules::{Answer, Outcome, Refusal, Session};
+use judging::Act;
+use rules::{Outcome, Refusal, Session};
 
-fn answer_of(verdict: Verdict) -> Answer
-    ensures { result ≡ answer_of verdict }
+// A write that is granted. A register takes its data by itself, since the session changes too.
+fn grant(tag: &mut [u8], session: Session, at: usize, data: &[u8], act: Act) -> Session
+    requires { (sound tag.old ≡ true) × WriteJudged (state tag.old session) at «data».now (Ok act) }
+    ensures { state tag.new result ≡ after E (state tag.old session) (command.write at «data».now) }
 {
-    match verdict {
-        Verdict::Refuse(r) => Answer::Refused(r),
-        _ => Answer::Done,
+    match act {
+        Act::Take(register) => registers::take(tag, session, register, data),
+        _ => {
+            carrying::carry_out(tag, at, data, act);
+            session
+        }
     }
 }
 
-// A write on a sound tag. A register takes its data by itself, since the session changes too.
+// A write on a sound tag: judged, and then carried out.
 fn write_sound(tag: &mut [u8], session: Session, at: usize, data: &[u8]) -> Outcome
     requires { sound tag.old ≡ true }
     ensures { CarriedOut E (state tag.old session) (command.write at «data».now) tag.new result }
 {
-    let verdict = judging::judge_write(tag, session, at, data);
-    if let Verdict::Take(register) = verdict {
-        let next = registers::take(tag, session, register, data);
-        return Outcome {
-            answer: Answer::Done,
-            session: next,
-        };
-    }
-    carrying::carry_out(tag, at, data, verdict);
-    Outcome {
-        answer: answer_of(verdict),
-        session,
+    match judging::judge_write(tag, session, at, data) {
+        Ok(act) => Outcome {
+            session: grant(tag, session, at, data, act),
+            answer: Ok(()),
+        },
+        Err(refusal) => {
+            carrying::note_refusal(tag, refusal);
+            Outcome {
+                session,
+                answer: Err(refusal),
+            }
+        }
     }
 }
 
-// A write on any bytes whatever. The caller has tested whether the tag is sound.
+// A write on any bytes whatever. The caller has tested whether the tag is sound (`layout::sound` has why a `bool` says so).
 pub fn write(
     tag: &mut [u8],
     is_sound: bool,
@@ -59,7 +65,7 @@ pub fn write(
 {
     if !is_sound {
         return Outcome {
-            answer: Answer::Refused(Refusal::Unsound),
+            answer: Err(Refusal::Unsound),
             session,
         };
     }

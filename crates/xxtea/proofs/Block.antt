@@ -1,5 +1,10 @@
 -- XXTEA on blocks of bytes: 16 bytes give 16, and each direction undoes the other. Assumes nothing.
-use Rattle.std.proofs.Common.{◌≡◌, ℕ, zero, suc, ◌+◌, ◌*◌, ◌/◌, ◌%◌, ◌^◌, ◌<◌, List, [], ◌∷◌, length, get_or, refl, ap, ◌∙◌, ap₂, mod-eq_of_lt, arith}
+use Rattle.std.proofs.Common.{◌≡◌, ℕ, zero, suc, ◌+◌, ◌*◌, ◌/◌, ◌%◌, ◌^◌, ◌<◌, List, [], ◌∷◌, length, map, w32, get_or, refl, ap, ◌∙◌, ap₂, arith}
+use Rattle.std.proofs.lemmas.Nat.{from_le_bytes-to_le_bytes_4}
+use Rattle.std.proofs.lemmas.List.FromFn.{fill_by_all}
+use Rattle.std.specs.Int.{from_le_bytes, to_le_bytes}
+use Rattle.std.specs.List.{range_with_len}
+use Rattle.std.specs.Simd.{first_chunks}
 use Rattle.xxtea.specs.Xxtea.{Direction, up, down, crypted}
 use Rattle.xxtea.specs.Claims.{Words, Bytes, BlockCipher}
 use Rattle.xxtea.specs.Block.{words_of, bytes_of, block_by}
@@ -21,24 +26,23 @@ unfolding bytes_of
 length_bytes [] = refl
 length_bytes (w ∷ ws) = let h = length_bytes ws in omega (arith, h)
 
--- ---- a list element by element
+-- ---- the words and the bytes as the code makes them, each from its number
 
--- n elements, from the one at i on
-unfoldable pub from : ℕ → ℕ → List ℕ → List ℕ
-from i zero xs = []
-from i (suc n) xs = get_or xs i 0 ∷ from (suc i) n xs
+pub words_made : (bs : List ℕ) → length bs ≡ 16 → (chunks : List (List ℕ)) → chunks ≡ first_chunks 4 4 bs
+    → map (λ i. from_le_bytes w32 (get_or chunks i [])) (range_with_len 0 4) ≡ words_of bs
+unfolding words_of
+words_made bs h chunks front =
+    let e = fill_by_all (λ (i : ℕ). get_or bs i 0) bs 16 0 h (λ k l. refl) in
+    rw (front, e) (simp worth)
+  where
+    worth : (a b c d : ℕ) → a + b * 256 + c * 65536 + d * 16777216 ≡ a + 256 * b + 65536 * c + 16777216 * d
+    worth a b c d = omega arith
 
-from_later : (i n x : ℕ) (xs : List ℕ) → from (suc i) n (x ∷ xs) ≡ from i n xs
-unfolding from
-from_later i zero x xs = refl
-from_later i (suc n) x xs = ap (λ ys. get_or xs i 0 ∷ ys) (from_later (suc i) n x xs)
-
-pub listed : (n : ℕ) (xs : List ℕ) → length xs ≡ n → from 0 n xs ≡ xs
-unfolding from
-listed zero [] h = refl
-listed zero (x ∷ xs) h = absurd (omega arith)
-listed (suc n) [] h = absurd (omega arith)
-listed (suc n) (x ∷ xs) h = ap (λ ys. x ∷ ys) (from_later 0 n x xs ∙ listed n xs (omega arith))
+pub bytes_made : (ws : List ℕ) → length ws ≡ 4 → map (λ i. get_or (to_le_bytes w32 (get_or ws (i / 4) 0)) (i % 4) 0) (range_with_len 0 16) ≡ bytes_of ws
+unfolding bytes_of
+bytes_made ws h =
+    let e = fill_by_all (λ (i : ℕ). get_or ws i 0) ws 4 0 h (λ k l. refl) in
+    rw e
 
 -- ---- splitting and joining undo each other
 
@@ -50,11 +54,7 @@ words_bytes (w ∷ ws) h =
   where
     joined : (w : ℕ) → w < 2 ^ 32
         → w % 2 ^ 8 + 2 ^ 8 * (w / 2 ^ 8 % 2 ^ 8) + 2 ^ 16 * (w / 2 ^ 16 % 2 ^ 8) + 2 ^ 24 * (w / 2 ^ 24 % 2 ^ 8) ≡ w
-    joined w l =
-        let a : w / 2 ^ 16 ≡ w / 2 ^ 8 / 2 ^ 8 = omega arith in
-        let b : w / 2 ^ 24 ≡ w / 2 ^ 8 / 2 ^ 8 / 2 ^ 8 = omega arith in
-        let m : w / 2 ^ 8 / 2 ^ 8 / 2 ^ 8 % 2 ^ 8 ≡ w / 2 ^ 8 / 2 ^ 8 / 2 ^ 8 = mod-eq_of_lt (omega arith) in
-        rw (a, b, m) (omega arith)
+    joined w l = omega (arith, from_le_bytes-to_le_bytes_4 w l)
 
 bytes_words : (k : ℕ) (bs : List ℕ) → Bytes bs → length bs ≡ 4 * k → bytes_of (words_of bs) ≡ bs
 unfolding words_of bytes_of

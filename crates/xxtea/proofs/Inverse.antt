@@ -1,8 +1,9 @@
 -- Each direction undoes the other on every list of words, by one argument over the direction. Assumes nothing.
 use Rattle.std.proofs.Common.{◌≡◌, ℕ, zero, suc, ◌+◌, ◌^◌, ◌<◌, ◌≤◌, Bool, true, false, ◌≢◌, List, length, get_or, set, refl, ap, ◌∙◌, le_refl, lt_of_not-le, arith, length-set, get_or-set_other, get_or-set_same, set-set}
-use native.Mathlib.Decide.{dec_le, ℕ_discrete}
-use lib.Seq.{set-get_or}
-use lib.Bits.{bit_xor, xor_lt}
+use Rattle.std.proofs.Math.Decide.{dec_le, ℕ_discrete}
+use Rattle.std.proofs.lemmas.List.{set-get_or}
+use Rattle.std.proofs.lemmas.Nat.{xor_lt}
+use Rattle.std.specs.Prelude.{bit_xor}
 use Rattle.xxtea.specs.Xxtea.{plus, shift_left, shift_right, sum_in, mix, next, previous, mix_at, Direction, up, down, change, step, pass, round, crypted, taken, rounds_for}
 use Rattle.xxtea.specs.Claims.{Words, EachUndoesTheOther, RefusedUnchanged}
 use Rattle.xxtea.proofs.Laws.{opposite, next_inside, next_last, previous_inside, previous_first, taken_both, rounds_taken}

@@ -1,7 +1,7 @@
 -- What a loop knows on its way through the words of a round or through the rounds, over the direction. Assumes nothing.
 use Rattle.std.proofs.Common.{◌≡◌, ℕ, ◌+◌, ◌-◌, ◌<◌, ◌≤◌, ◌≢◌, List, length, get_or, set, sym, refl, ap, ◌∙◌, zero-le, le_refl, add-one, arith, length-set, get_or-set_other, get_or-set_same}
 use Rattle.xxtea.specs.Xxtea.{mix, key_word, next, previous, mix_at, Direction, up, down, change, step, pass, round, sum_in, rounds_for, crypted}
-use Rattle.xxtea.proofs.Laws.{opposite, next_inside, next_last, previous_inside, previous_first, some_rounds}
+use Rattle.xxtea.proofs.Laws.{opposite, next_inside, next_last, previous_inside, previous_first}
 
 -- Of the numbers 0 to n - 1, those below k are done on the way up, and those below k are left on the way down.
 abbrev pub Done : Direction → (ℕ → List ℕ → List ℕ) → ℕ → ℕ → List ℕ → List ℕ → Type 0
@@ -77,16 +77,15 @@ mixed down behind ahead = mix ahead behind
 
 -- the store of a changed word is a step
 stepped :
-    (d : Direction) (key : List ℕ) (sum p : ℕ) (ws : List ℕ) {x b a m v : ℕ}
+    (d : Direction) (key : List ℕ) (sum p : ℕ) (ws : List ℕ) {x b a m : ℕ}
     → x ≡ get_or ws p 0
     → b ≡ get_or ws (side d (length ws) p) 0
     → a ≡ get_or ws (side (opposite d) (length ws) p) 0
     → m ≡ mixed d b a sum (key_word key sum p)
-    → v ≡ change d x m
-    → set ws p v ≡ step d key sum p ws
+    → set ws p (change d x m) ≡ step d key sum p ws
 unfolding step mix_at
-stepped up key sum p ws ex eb ea em ev = ap (set ws p) (cc)
-stepped down key sum p ws ex eb ea em ev = ap (set ws p) (cc)
+stepped up key sum p ws ex eb ea em = ap (set ws p) (cc)
+stepped down key sum p ws ex eb ea em = ap (set ws p) (cc)
 
 module _ (d : Direction) (key : List ℕ) (sum : ℕ) (ws : List ℕ) where
   -- A round that began with ws stands before word p of w: x is that word, b the neighbour behind it.
@@ -120,28 +119,28 @@ module _ (d : Direction) (key : List ℕ) (sum : ℕ) (ws : List ℕ) where
         behind = sym (ap (λ (i : ℕ). get_or ws i 0) (circle d (length ws) h));
       }
 
-  -- word p is stored as v, changed by its mix m, which a, the word ahead, has gone into
+  -- word p is changed by its mix m, which a, the word ahead, has gone into
   module _
       {w : List ℕ} {p x b : ℕ} (s : Stands d key sum ws w p x b)
-      {a m v : ℕ} (em : m ≡ mixed d b a sum (key_word key sum p)) (ev : v ≡ change d x m)
+      {a m : ℕ} (em : m ≡ mixed d b a sum (key_word key sum p))
     where
-      store : a ≡ get_or w (side (opposite d) (length ws) p) 0 → set w p v ≡ step d key sum p w
-      store h = stepped d key sum p w s.here (rw s.size s.behind) (rw s.size h) em ev
+      store : a ≡ get_or w (side (opposite d) (length ws) p) 0 → set w p (change d x m) ≡ step d key sum p w
+      store h = stepped d key sum p w s.here (rw s.size s.behind) (rw s.size h) em
 
-      more : a ≡ get_or w (side (opposite d) (length ws) p) 0 → Done d (step d key sum) (length ws) (bound (opposite d) p) ws (set w p v)
+      more : a ≡ get_or w (side (opposite d) (length ws) p) 0 → Done d (step d key sum) (length ws) (bound (opposite d) p) ws (set w p (change d x m))
       more h = done_more (step d key sum) (length ws) ws d p s.done (store h)
 
-      pub stands_next : (q : ℕ) → Follows d p q → q < length ws → a ≡ get_or w q 0 → Stands d key sum ws (set w p v) q a v
+      pub stands_next : (q : ℕ) → Follows d p q → q < length ws → a ≡ get_or w q 0 → Stands d key sum ws (set w p (change d x m)) q a (change d x m)
       stands_next q f hq h =
           record {
             inside = hq;
-            size = length-set w p v ∙ s.size;
+            size = length-set w p (change d x m) ∙ s.size;
             done = rw (sym (follows_bound d p q f)) (more (rw (ahead d (length ws) p q f s.inside hq) h));
-            here = h ∙ sym (get_or-set_other w p q v 0 (follows_other d p q f));
-            behind = rw (behind d (length ws) p q f s.inside hq) (sym (get_or-set_same w p v 0 (omega (arith, s.size, s.inside))));
+            here = h ∙ sym (get_or-set_other w p q _ 0 (follows_other d p q f));
+            behind = rw (behind d (length ws) p q f s.inside hq) (sym (get_or-set_same w p _ 0 (omega (arith, s.size, s.inside))));
           }
 
-      pub stands_last : p ≡ first (opposite d) (length ws) → a ≡ get_or w (first d (length ws)) 0 → set w p v ≡ round d key sum ws
+      pub stands_last : p ≡ first (opposite d) (length ws) → a ≡ get_or w (first d (length ws)) 0 → set w p (change d x m) ≡ round d key sum ws
       unfolding round
       stands_last l h =
           let n = length ws in
@@ -168,10 +167,6 @@ module _ (d : Direction) (key ws : List ℕ) where
   rounds_first = record { inside = outset_inside d _; size = refl; done = done_none _ _ ws d }
 
   module _ {w : List ℕ} (r : ℕ) (s : Rounds d key ws w (bound d r)) (l : r < rounds_for (length ws)) where
-    -- a round is asked for only where the length is taken
-    pub rounds_fit : 2 ≤ length w
-    rounds_fit = rw s.size (some_rounds (length ws) (omega arith))
-
     pub rounds_next : {w' : List ℕ} (sum : ℕ) → sum ≡ sum_in (r + 1) → w' ≡ round d key sum w → length w' ≡ length w → Rounds d key ws w' (bound (opposite d) r)
     rounds_next sum h e k =
         record {

@@ -1,7 +1,6 @@
 -- The numbers of document 01, "The cipher", and published vectors. They are computed: a definition with another
 -- constant, shift or number of rounds is refused here, even where the code is wrong in the same way. Assumes nothing.
-use Rattle.std.specs.Prelude.{◌≡◌, ℕ, List, [], ◌∷◌, map}
-use Rattle.std.proofs.Math.Option.{none, some}
+use Rattle.std.specs.Prelude.{◌≡◌, ℕ, List, [], ◌∷◌, map, None, Some}
 use Rattle.xxtea.specs.Xxtea.{rounds_for, sum_in, enciphered, refused}
 use Rattle.xxtea.specs.Block.{E}
 
@@ -44,7 +43,7 @@ response =
 
 pub record Numbers : Type 0 where
   -- "n words, 2 to 1,024"; "17, cipher word count outside 2 to 1,024"
-  pub lengths : map refused (1 ∷ 2 ∷ 1024 ∷ 1025 ∷ []) ≡ some 17 ∷ none ∷ none ∷ some 17 ∷ []
+  pub lengths : map refused (1 ∷ 2 ∷ 1024 ∷ 1025 ∷ []) ≡ Some 17 ∷ None ∷ None ∷ Some 17 ∷ []
   -- "32 for n = 2, 19 for 4, 7 for 52, 6 for 53"
   pub rounds : map rounds_for (2 ∷ 4 ∷ 52 ∷ 53 ∷ []) ≡ 32 ∷ 19 ∷ 7 ∷ 6 ∷ []
   -- "For n = 4 that first sum is 0xBE1E08BB"

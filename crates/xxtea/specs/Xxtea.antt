@@ -1,9 +1,7 @@
 -- XXTEA over lists of 32-bit words: document 01, "The cipher" (Wheeler and Needham, "Correction to XTEA", 1998).
 -- A word is a number below 2 ^ 32. Assumes nothing.
-use Rattle.std.specs.Prelude.{ℕ, zero, suc, ◌+◌, ◌-◌, ◌*◌, ◌/◌, ◌%◌, ◌^◌, Bool, cond, ◌&&◌, List, length, bit_xor, nat_le, slice_index, slice_set}
-use Rattle.std.proofs.Math.Option.{Option, none, some}
-use Rattle.xxtea.specs.declared.Answer.{Answer}
-use Rattle.xxtea.specs.declared.Answer.TheVariants.{Done, Refused}
+use Rattle.std.specs.Prelude.{ℕ, zero, suc, ◌+◌, ◌-◌, ◌*◌, ◌/◌, ◌%◌, ◌^◌, Bool, cond, ◌&&◌, List, length, bit_xor, nat_le, slice_index, slice_set, Result, Ok, Err, None, Option, Some}
+use Rattle.xxtea.specs.declared.WrongLength.{WrongLength}
 
 -- "n words, 2 to 1,024"
 abbrev pub taken : ℕ → Bool
@@ -91,9 +89,9 @@ abbrev pub deciphered : List ℕ → List ℕ → List ℕ
 deciphered = crypted down
 
 -- The refusal number of each answer, and the one owed: "17, cipher word count outside 2 to 1,024".
-abbrev pub refusal : Answer → Option ℕ
-refusal Done = none
-refusal Refused = some 17
+abbrev pub refusal : Result (Unit {0}) WrongLength → Option ℕ
+refusal (Ok _) = None
+refusal (Err _) = Some 17
 
 abbrev pub refused : ℕ → Option ℕ
-refused n = cond (taken n) none (some 17)
+refused n = cond (taken n) None (Some 17)

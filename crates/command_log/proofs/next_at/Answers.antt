@@ -1,6 +1,6 @@
 -- `command_log::next_at` meets its contract: each arm has its kind, and no other byte has one. Assumes nothing.
 use Rattle.command_log.proofs.Laws.{no_kind, counted-kinds, comes_whole}
-use Rattle.command_log.specs.declared.Next.TheVariants.{Unreadable}
+use Rattle.std.specs.Prelude.{None}
 use Rattle.rules.specs.Bytes.{byte}
 use Rattle.rules.specs.Log.{kinds, kind_in}
 use Rattle.std.proofs.Common.{◌+◌, ◌-◌, ◌≡◌, sym, ap, ◌∙◌, arith}
@@ -34,16 +34,16 @@ pub returns-in_default : goal.returns-in_default
 unfolding kinds
 returns-in_default c =
     let b = byte c.args.at c.args.log.now in
-    comes_whole c.args.log.now c.args.at Unreadable c.requires (sym (no_kind kinds b (omega arith))) (omega arith)
+    comes_whole c.args.log.now c.args.at None c.requires (sym (no_kind kinds b (omega arith))) (omega arith)
 
 pub returns-in_default-2 : goal.returns-in_default-2
 unfolding kinds
 returns-in_default-2 c =
     let b = byte c.args.at c.args.log.now in
-    comes_whole c.args.log.now c.args.at Unreadable c.requires (sym (no_kind kinds b (omega arith))) (omega arith)
+    comes_whole c.args.log.now c.args.at None c.requires (sym (no_kind kinds b (omega arith))) (omega arith)
 
 pub returns-in_default-3 : goal.returns-in_default-3
 unfolding kinds
 returns-in_default-3 c =
     let b = byte c.args.at c.args.log.now in
-    comes_whole c.args.log.now c.args.at Unreadable c.requires (sym (no_kind kinds b (omega arith))) (omega arith)
+    comes_whole c.args.log.now c.args.at None c.requires (sym (no_kind kinds b (omega arith))) (omega arith)

@@ -4,16 +4,16 @@ use Rattle.rules.specs.Log.{encoded}
 use Rattle.std.proofs.Common.{ap, ◌∙◌, set}
 use Rattle.command_log.proofs.put_answer.Goals as goal
 
-pub returns-in-Done : goal.returns-in-Done
+pub returns-in-Ok : goal.returns-in-Ok
 unfolding encoded
-returns-in-Done c =
+returns-in-Ok c =
     let t = c.args.output.now in
-    let e = c.in-Done.is in
+    let e = c.in-Ok.is in
     record { output_after = set_put 0 0x50 t ∙ rw e; value = rw e }
 
-pub returns-in-Refused : goal.returns-in-Refused
+pub returns-in-Err : goal.returns-in-Err
 unfolding encoded
-returns-in-Refused c =
+returns-in-Err c =
     let t = c.args.output.now in
-    let e = c.in-Refused.is in
+    let e = c.in-Err.is in
     record { output_after = ap (λ n. set (set t 0 0x51) 1 n) c.number_of.ensures ∙ put_two 0x51 _ t ∙ rw e; value = rw e }

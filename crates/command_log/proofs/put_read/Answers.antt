@@ -9,17 +9,17 @@ use Rattle.command_log.proofs.put_read.Goals as goal
 pub overflow_add-output : goal.overflow_add-output
 overflow_add-output c = let d = (code_of _ c.requires.1).1 in omega arith
 
-pub returns-in-Done : goal.returns-in-Done
-returns-in-Done c =
+pub returns-in-Ok : goal.returns-in-Ok
+returns-in-Ok c =
     let t = c.args.output.now in
-    let e = c.in-Done.is in
+    let e = c.in-Ok.is in
     record {
       output_after = set_put 0 _ t ∙ ap (λ k. put 0 (k ∷ []) t) (code_of _ c.requires.1).0 ∙ rw e;
       value = ap (λ n. 1 + n) c.count_of.ensures.0 ∙ rw e;
     }
 
-pub returns : goal.returns
+pub returns-in-Err : goal.returns-in-Err
 unfolding encoded
-returns c =
-    let e = c.in_default.is in
+returns-in-Err c =
+    let e = c.in-Err.is in
     record { output_after = c.put_answer.ensures.output_after ∙ rw e; value = c.put_answer.ensures.value ∙ rw e }

@@ -12,4 +12,4 @@ returns c =
     let t = a.tag.now in
     put_back a.at 48 t _ (joined_slot a.id a.masks (part a.at 48 t))
     (c.join_slot.ensures ∙ ap (joined_slot a.id a.masks) (part_lent a.at 48 t))
-    (joined_long a.id a.masks (part a.at 48 t) (length_lent a.at 48 t c.requires.0)) c.requires.0
+    (joined_long a.id a.masks (part a.at 48 t) (length_lent a.at 48 t c.requires)) c.requires

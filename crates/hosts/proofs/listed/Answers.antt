@@ -1,27 +1,9 @@
--- What is left to prove of `hosts::listed` beside its invariant. Assumes nothing.
-use Rattle.hosts.proofs.ListLaws.{sought_next, sought_end, walk_start}
-use Rattle.rules.specs.Hosts.{most_hosts, any, listed}
-use Rattle.std.proofs.Common.{refl, arith}
+-- `hosts::listed` meets its contract. Assumes nothing.
+use Rattle.hosts.proofs.RowLaws.{any_of_rows}
+use Rattle.rules.specs.Hosts.{names}
+use Rattle.std.proofs.Common.{rules, tests}
 use Rattle.hosts.proofs.listed.Goals as goal
 
-pub loop-i-init : goal.loop-i-init
-unfolding any
-loop-i-init c =
-    record { walk = walk_start c.args.n c.args.readers.now c.requires.1; seen = refl }
-
-pub named-requires : goal.named-requires
-named-requires c =
-    let w = c.loop-i.invariant.walk.within in (c.requires.0, omega arith)
-
-pub loop-i-preserved : goal.loop-i-preserved
-unfolding any
-loop-i-preserved c =
-    let a = c.args in
-    rw c.named.ensures
-    (sought_next (listed a.k) 0 a.n c.loop-i.i c.loop-i.found _ a.readers.now refl (omega arith) c.loop-i.invariant)
-
 pub returns : goal.returns
-unfolding most_hosts any
 returns c =
-    let a = c.args in
-    sought_end (listed a.k) 0 a.n c.loop-i.i c.loop-i.found a.readers.now refl (omega arith) c.loop-i.invariant
+    any_of_rows (names c.args.k) c.args.rows.now c.any.ensures.ran (cc) (λ row b q k. search (rules, tests))

@@ -2,6 +2,7 @@
 use Rattle.rules.proofs.MapLaws.{segments_aligned}
 use Rattle.rules.proofs.Places.{found_at, found_public}
 use Rattle.rules.specs.declared.Place.TheVariants.{Segment}
+use Rattle.layout.proofs.Laws.{then_cond}
 use Rattle.std.proofs.Common.{sym, ◌∙◌, arith}
 use Rattle.layout.proofs.segment_place.Goals as goal
 
@@ -14,6 +15,7 @@ returns-then-k-a c =
 pub returns : goal.returns
 returns c =
     let aligned = segments_aligned c.args.a in
-    c.within.ensures
+    c.then_some.ensures
+    ∙ then_cond _ _
     ∙ sym (found_public c.args.a c.args.p c.args.at c.args.n c.requires.0 _ (omega arith)
     (omega arith) (omega arith))

@@ -11,6 +11,3 @@ returns-then-not-is_sound c =
     let a = c.args in
     let n = sym c.requires ∙ c.if-not-is_sound.true in
     unsound E (state a.tag.now a.session) (advance a.segment) tt n
-
-pub advance_sound-requires : goal.advance_sound-requires
-advance_sound-requires c = sym c.requires ∙ c.if-not-is_sound.false

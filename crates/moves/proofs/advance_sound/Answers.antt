@@ -1,11 +1,10 @@
 -- `moves::advance_sound` meets its contract: the unit moves, or all stays. Assumes nothing.
 use Rattle.layout.proofs.Laws.{unit_counted, unit_lent}
 use Rattle.moves.proofs.AdvanceLaws.{advance_outside, advance_judged, advance_refused, advance_moves}
-use Rattle.moves.specs.Moves.{move_answer}
+use Rattle.rules.proofs.Tests.{handed_on}
 use Rattle.rules.proofs.MapLaws.{sizes}
 use Rattle.rules.specs.Answers.{refusal_of}
-use Rattle.std.proofs.Common.{sym, ap, ◌∙◌, not, arith}
-use Rattle.units.proofs.Laws.{unit_length}
+use Rattle.std.proofs.Common.{refl, sym, ap, ◌∙◌, not, arith}
 use borrow.Author.Tests.{lt-ltb}
 use Rattle.moves.proofs.advance_sound.Goals as goal
 
@@ -20,11 +19,6 @@ returns-then-not-segment-segments c =
 pub unit_of-requires : goal.unit_of-requires
 unit_of-requires c =
     (unit_counted _ _ _ c.requires c.segments.ensures (ap not (lt-ltb _ _ c.if-not-segment-segments.false))).inside
-
-pub judge_advance-requires : goal.judge_advance-requires
-judge_advance-requires c =
-    let there = unit_counted _ _ _ c.requires c.segments.ensures (ap not (lt-ltb _ _ c.if-not-segment-segments.false)) in
-    unit_length _ _ _ c.unit_of.ensures there.inside
 
 pub unit_at-start-requires : goal.unit_at-start-requires
 unit_at-start-requires c =
@@ -41,27 +35,27 @@ slice_bounds-advance-end c =
     let there = unit_counted _ _ _ c.requires c.segments.ensures (ap not (lt-ltb _ _ c.if-not-segment-segments.false)) in
     omega (arith, there, c.unit_at-start.ensures)
 
-pub returns-in-Advance : goal.returns-in-Advance
-returns-in-Advance c =
+pub returns-in_err-stage : goal.returns-in_err-stage
+returns-in_err-stage c =
+    let there = unit_counted _ _ _ c.requires c.segments.ensures (ap not (lt-ltb _ _ c.if-not-segment-segments.false)) in
+    let refused = advance_judged _ _ _ _ _ c.requires there.among c.unit_of.ensures c.in_err-stage.ensures in
+    record {
+      result_value = ap refusal_of (handed_on _ _ c.from_residual.ensures.1) ∙ refused;
+      session_after = advance_refused _ _ _ _ (sym refused);
+    }
+
+pub returns : goal.returns
+returns c =
     let start-at = c.unit_at-start.ensures in
     let t = c.args.tag.now in
     let k = c.args.segment in
     let there = unit_counted t k _ c.requires c.segments.ensures (ap not (lt-ltb _ _ c.if-not-segment-segments.false)) in
-    let told = c.in-Advance.is in
     let read = c.unit_of.ensures in
-    let number = advance_judged _ _ k _ _ c.requires there.among read c.judge_advance.ensures in
-    let none = sym number ∙ ap (λ v. refusal_of (move_answer v)) told in
-    let model = rw read at (c.judge_advance.ensures.granted _ told) in
+    let judged = c.in_ok-stage.ensures in
+    let granted = advance_judged _ _ k _ _ c.requires there.among read judged in
+    let model = rw read at (judged.granted _ refl) in
     record {
-      result_value = sym none;
-      session_after = advance_moves _ _ k _ _ _ c.requires there.among none model start-at
+      result_value = granted;
+      session_after = advance_moves _ _ k _ _ _ c.requires there.among (sym granted) model start-at
           (rw (unit_lent t k _ start-at) at c.advance.ensures);
     }
-
-pub returns-in-Refuse : goal.returns-in-Refuse
-returns-in-Refuse c =
-    let there = unit_counted _ _ _ c.requires c.segments.ensures (ap not (lt-ltb _ _ c.if-not-segment-segments.false)) in
-    let number =
-    advance_judged _ _ _ _ _ c.requires there.among c.unit_of.ensures c.judge_advance.ensures in
-    let refused = sym number ∙ ap (λ v. refusal_of (move_answer v)) c.in-Refuse.is in
-    record { result_value = sym refused; session_after = advance_refused _ _ _ _ refused }

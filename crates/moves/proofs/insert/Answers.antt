@@ -2,7 +2,7 @@
 use Rattle.rules.proofs.Unsound.{unsound}
 use Rattle.rules.specs.Command.{insert}
 use Rattle.rules.specs.State.{state}
-use Rattle.std.proofs.Common.{sym, ◌∙◌, rules}
+use Rattle.std.proofs.Common.{sym, ◌∙◌}
 use Rattle.xxtea.specs.Block.{E}
 use Rattle.moves.proofs.insert.Goals as goal
 
@@ -11,6 +11,3 @@ returns-then-not-is_sound c =
     let a = c.args in
     let n = sym c.requires ∙ c.if-not-is_sound.true in
     unsound E (state a.tag.now a.session) (insert a.segment a.id) tt n
-
-pub insert_sound-requires : goal.insert_sound-requires
-insert_sound-requires c = (sym c.requires ∙ c.if-not-is_sound.false, search rules)

@@ -1,16 +1,11 @@
--- What is left to prove of `octets::all_zero` beside its invariant. Assumes nothing.
-use Rattle.octets.proofs.Laws.{zeros-next, zeros_end}
-use Rattle.std.proofs.Common.{refl, arith}
+-- `octets::all_zero` meets its contract: the fold is the test of all. Assumes nothing.
+use Rattle.octets.proofs.Laws.{zeros_fold}
 use Rattle.octets.proofs.all_zero.Goals as goal
-
-pub loop-i-init : goal.loop-i-init
-loop-i-init c = (omega arith, refl)
-
-pub loop-i-preserved : goal.loop-i-preserved
-loop-i-preserved c =
-    let bytes = c.args.bytes.now in
-    (omega arith, zeros-next c.loop-i.all c.loop-i.i bytes (omega arith) c.loop-i.invariant.1)
+use Rattle.std.specs.List.{fold}
+use Rattle.std.proofs.lemmas.Grind.{common_steps}
+use Rattle.std.proofs.Common.{◌∙◌, ◌≡◌, ◌&&◌, true, eqb, arith}
 
 pub returns : goal.returns
 returns c =
-    zeros_end c.loop-i.all c.loop-i.i c.args.bytes.now (omega arith) c.loop-i.invariant.1
+    let e : c.fold.result ≡ fold (λ all b. all && eqb b 0) true c.args.bytes.now = grind (arith, common_steps) in
+    e ∙ zeros_fold true c.args.bytes.now

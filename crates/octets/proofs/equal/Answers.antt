@@ -1,22 +1,18 @@
--- What is left to prove of `octets::equal` beside its invariant. Assumes nothing.
-use Rattle.octets.proofs.Laws.{same_next, same_end, other_length}
-use Rattle.std.proofs.Common.{refl, sym, arith}
+-- `octets::equal` meets its contract: the fold over the pairs is the test of all. Assumes nothing.
+use Rattle.octets.proofs.Laws.{same_fold, other_length}
+use Rattle.std.proofs.lemmas.Iterator.{YieldsList-from_slice, YieldsList-from_zip}
+use Rattle.std.proofs.lemmas.Iterator.Consumers.{fold_from_yields_List}
 use Rattle.octets.proofs.equal.Goals as goal
+use Rattle.std.proofs.Common.{◌∙◌, ◌&&◌, true, eqb, ℕ, sym, ne_eqb, rules, tests}
+
+pub returns-else-a-b : goal.returns-else-a-b
+returns-else-a-b c = ne_eqb _ _ c.if-a-b.false ∙ sym (other_length _ _ c.if-a-b.false)
 
 pub returns-then-a-b : goal.returns-then-a-b
-returns-then-a-b c = sym (other_length _ _ c.if-a-b.true)
-
-pub loop-i-init : goal.loop-i-init
-loop-i-init c = (omega arith, refl)
-
-pub loop-i-preserved : goal.loop-i-preserved
-loop-i-preserved c = (
-  omega arith,
-  same_next c.loop-i.all c.loop-i.i c.args.a.now c.args.b.now (omega arith) (omega arith)
-      c.loop-i.invariant.1,
-)
-
-pub returns : goal.returns
-returns c =
-    same_end c.loop-i.all c.loop-i.i c.args.a.now c.args.b.now (omega arith) (omega arith)
-    c.loop-i.invariant.1
+returns-then-a-b c =
+    let a = c.args.a.now in
+    let b = c.args.b.now in
+    fold_from_yields_List _ (λ all (p : ℕ × ℕ). all && eqb p.0 p.1) true c.fold.result c.fold.ensures.ran
+    (YieldsList-from_zip (YieldsList-from_slice a cc) (YieldsList-from_slice b cc))
+    (λ all p r q k. search (rules, tests))
+    ∙ same_fold true a b c.if-a-b.true

@@ -1,15 +1,10 @@
--- `octets::store` meets its contract. Assumes nothing.
+-- `octets::store` meets its contract: eight bytes become all of the data. Assumes nothing.
 use Rattle.octets.proofs.Laws.{put_whole}
-use Rattle.rules.proofs.Tests.{and_true}
-use Rattle.rules.specs.Bytes.{put}
-use Rattle.std.proofs.Common.{ap, ◌∙◌, length, eqb, eqb-true}
+use Rattle.std.proofs.Common.{sym, ◌∙◌}
 use Rattle.octets.proofs.store.Goals as goal
 
-pub returns-then-bytes-data : goal.returns-then-bytes-data
-returns-then-bytes-data c =
-    let a = c.args in
-    let bs = a.«data».now in
-    let both = and_true (eqb (length a.bytes.now) 8) (eqb (length bs) 8) c.if-bytes-data.true in
-    let l = eqb-true (length bs) 8 both.1 in
-    c.copy-then-bytes-data.ensures
-    ∙ ap (λ bs. put 0 bs a.bytes.now) (c.copy.ensures ∙ put_whole bs _ l)
+pub returns-in-Some-Some : goal.returns-in-Some-Some
+returns-in-Some-Some c =
+    let slot = c.in-Some-Some.ensures.cases in
+    let eight = c.in-Some-Some.ensures'.cases in
+    eight.same ∙ sym (put_whole c.args.«data».now c.args.bytes.now (eight.long ∙ sym slot.long))

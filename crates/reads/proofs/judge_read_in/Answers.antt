@@ -2,7 +2,6 @@
 use Rattle.layout.proofs.Laws.{unit_found, segment_offset}
 use Rattle.reads.proofs.Laws.{readable, unreadable, unit_read_in, segment_read_in}
 use Rattle.std.proofs.Common.{sym, ◌∙◌, arith, rules}
-use Rattle.units.proofs.Laws.{unit_length}
 use Rattle.reads.proofs.judge_read_in.Goals as goal
 
 pub unit_of-requires : goal.unit_of-requires
@@ -23,11 +22,6 @@ pub overflow_sub-at : goal.overflow_sub-at
 overflow_sub-at c =
     let found = unit_found _ _ _ _ _ c.requires.0 c.requires.1 c.in-UnitOf.is in
     omega (arith, found, c.unit_at.ensures)
-
-pub judge_unit_read-requires : goal.judge_unit_read-requires
-judge_unit_read-requires c =
-    let found = unit_found _ _ _ _ _ c.requires.0 c.requires.1 c.in-UnitOf.is in
-    unit_length _ _ _ c.unit_of.ensures found.0.inside
 
 pub judge_segment_read-requires : goal.judge_segment_read-requires
 judge_segment_read-requires c =

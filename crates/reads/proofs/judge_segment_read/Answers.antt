@@ -3,24 +3,18 @@ use Rattle.layout.proofs.Laws.{unit_inside}
 use Rattle.reads.proofs.Laws.{segment_formless, segment_read_by}
 use Rattle.rules.proofs.Tests.{gives, leaves, none_applies}
 use Rattle.std.proofs.Common.{sym, ◌∙◌, arith}
-use Rattle.units.proofs.Laws.{unit_length}
 use Rattle.reads.proofs.judge_segment_read.Goals as goal
 
 pub unit_of-unit-requires : goal.unit_of-unit-requires
 unit_of-unit-requires c = (unit_inside _ _ c.requires.0 c.requires.1).inside
 
-pub decode-requires : goal.decode-requires
-decode-requires c =
-    unit_length _ _ _ c.unit_of-unit.ensures (unit_inside _ _ c.requires.0 c.requires.1).inside
-
 pub returns-in_default : goal.returns-in_default
 returns-in_default c =
-    sym (segment_formless _ _ _ _ _ _ _ _ c.unit_of-unit.ensures (sym c.decode.ensures ∙ c.in_default.is))
+    sym (segment_formless _ _ _ _ _ _ _ _ c.unit_of-unit.ensures (sym c.in_default.ensures))
 
 pub returns-then-not-u : goal.returns-then-not-u
 returns-then-not-u c =
-    let whole = sym c.decode.ensures ∙ c.in-Unit.is in
-    sym (segment_read_by _ _ _ _ _ _ _ _ _ c.unit_of-unit.ensures whole ∙ gives 6 _ _ c.if-not-u.true)
+    sym (segment_read_by _ _ _ _ _ _ _ _ _ c.unit_of-unit.ensures (sym c.in-Some.ensures) ∙ gives 6 _ _ c.if-not-u.true)
 
 pub hidden-requires : goal.hidden-requires
 hidden-requires c =
@@ -31,30 +25,22 @@ hidden-requires c =
 
 pub returns-then-hidden : goal.returns-then-hidden
 returns-then-hidden c =
-    let whole = sym c.decode.ensures ∙ c.in-Unit.is in
-    sym (segment_read_by _ _ _ _ _ _ _ _ _ c.unit_of-unit.ensures whole ∙ leaves 6 _ _ c.if-not-u.false
+    sym (segment_read_by _ _ _ _ _ _ _ _ _ c.unit_of-unit.ensures (sym c.in-Some.ensures) ∙ leaves 6 _ _ c.if-not-u.false
     ∙ gives 6 _ _ (sym c.hidden.ensures ∙ c.if-hidden.true))
 
 pub returns-then-u-session : goal.returns-then-u-session
 returns-then-u-session c =
-    let whole = sym c.decode.ensures ∙ c.in-Unit.is in
-    sym (segment_read_by _ _ _ _ _ _ _ _ _ c.unit_of-unit.ensures whole ∙ leaves 6 _ _ c.if-not-u.false
+    sym (segment_read_by _ _ _ _ _ _ _ _ _ c.unit_of-unit.ensures (sym c.in-Some.ensures) ∙ leaves 6 _ _ c.if-not-u.false
     ∙ leaves 6 _ _ (sym c.hidden.ensures ∙ c.if-hidden.false) ∙ gives 7 _ _ c.if-u-session.true)
-
-pub named-requires : goal.named-requires
-named-requires c =
-    unit_length _ _ _ c.unit_of-unit.ensures (unit_inside _ _ c.requires.0 c.requires.1).inside
 
 pub returns-then-u-named : goal.returns-then-u-named
 returns-then-u-named c =
-    let whole = sym c.decode.ensures ∙ c.in-Unit.is in
-    sym (segment_read_by _ _ _ _ _ _ _ _ _ c.unit_of-unit.ensures whole ∙ leaves 6 _ _ c.if-not-u.false
+    sym (segment_read_by _ _ _ _ _ _ _ _ _ c.unit_of-unit.ensures (sym c.in-Some.ensures) ∙ leaves 6 _ _ c.if-not-u.false
     ∙ leaves 6 _ _ (sym c.hidden.ensures ∙ c.if-hidden.false) ∙ leaves 7 _ _ c.if-u-session.false
     ∙ gives 8 _ _ (rw c.named.ensures at c.if-u-named.true))
 
 pub returns : goal.returns
 returns c =
-    let whole = sym c.decode.ensures ∙ c.in-Unit.is in
-    sym (segment_read_by _ _ _ _ _ _ _ _ _ c.unit_of-unit.ensures whole ∙ leaves 6 _ _ c.if-not-u.false
+    sym (segment_read_by _ _ _ _ _ _ _ _ _ c.unit_of-unit.ensures (sym c.in-Some.ensures) ∙ leaves 6 _ _ c.if-not-u.false
     ∙ leaves 6 _ _ (sym c.hidden.ensures ∙ c.if-hidden.false) ∙ leaves 7 _ _ c.if-u-session.false
     ∙ leaves 8 _ _ (rw c.named.ensures at c.if-u-named.false) ∙ none_applies)

@@ -16,9 +16,6 @@ returns-then-not-is_sound c =
     let u = unsound E s (read a.address a.count (length a.output.now)) tt n in
     record { carried_out = u; output_after = sym ((refused_changes_nothing _ _ _ _ (sym u.answered)).same_output _) }
 
-pub read_sound-requires : goal.read_sound-requires
-read_sound-requires c = sym c.requires ∙ c.if-not-is_sound.false
-
 pub returns : goal.returns
 returns c =
     let done = c.read_sound.ensures in

@@ -1,5 +1,5 @@
 -- `registers::guard_fits` meets its contract. Assumes nothing.
-use Rattle.octets.proofs.Laws.{part_lent, block_whole, block_lent}
+use Rattle.octets.proofs.Laws.{part_lent, block_lent}
 use Rattle.rules.specs.State.{owner}
 use Rattle.std.proofs.Common.{◌+◌, ◌*◌, ◌∙◌, arith}
 use Rattle.registers.proofs.guard_fits.Goals as goal
@@ -13,6 +13,4 @@ returns c =
       c.encipher_block-enciphered.ensures,
       c.sixteen-key.ensures,
       block_lent (16 + 16 * c.args.owner) c.args.tag.now (omega arith),
-      c.sixteen.ensures,
-      block_whole c.args.«data».now c.requires.2,
     )

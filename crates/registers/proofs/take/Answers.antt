@@ -1,4 +1,5 @@
 -- `registers::take` meets its contract: register by register. Assumes nothing.
+use Rattle.layout.proofs.Laws.{lent_whole}
 use Rattle.registers.proofs.Laws.{takes_read, takes_write, takes_edit, takes_name, takes_id, takes_commit, takes_pa}
 use Rattle.rules.specs.Bytes.{number, part}
 use Rattle.rules.specs.State.{pin_index, owner_index, with_read, with_write, with_edit, with_name, with_id, with_pa}
@@ -26,14 +27,14 @@ unfolding pin_index
 masked-name-requires c =
     let small = pinned c.args.session.pa _ c.number16-pin.ensures (c.requires.pinned (inl c.in-Name.is)) in
     let long = c.requires.long in
-    (omega arith, omega (arith, small, long), c.requires.whole)
+    (omega arith, omega (arith, small, long))
 
 pub commit-requires : goal.commit-requires
 unfolding owner_index pin_index
 commit-requires c =
     let before = c.requires in
     let is = c.in-Commit.is in
-    (before.long, pinned c.args.session.pa _ c.number16-pin.ensures (before.pinned (inr is)), rw c.number16.ensures (before.owned is), before.whole)
+    (before.long, pinned c.args.session.pa _ c.number16-pin.ensures (before.pinned (inr is)), rw c.number16.ensures (before.owned is))
 
 pub returns-in-Read : goal.returns-in-Read
 unfolding with_read
@@ -58,24 +59,24 @@ unfolding with_name
 returns-in-Name c =
     let a = c.args in
     takes_name a.tag.now a.session _ a.«data».now _ c.number16-pin.ensures _ c.in-Name.is
-    c.masked-name.ensures
+    (rw (← lent_whole _ _ (λ y. y.now) _ 16 _ _ c.unwrap-block.ensures c.as_array.ensures.cases) c.masked-name.ensures)
 
 pub returns-in-Id : goal.returns-in-Id
 unfolding with_id
 returns-in-Id c =
     let a = c.args in
-    takes_id a.tag.now a.session _ a.«data».now _ c.requires.whole c.sixteen-id.ensures
+    takes_id a.tag.now a.session _ a.«data».now _ (lent_whole _ _ (λ y. y.now) _ 16 _ _ c.unwrap-block.ensures c.as_array.ensures.cases)
     c.in-Id.is
 
 pub returns-in-Commit : goal.returns-in-Commit
 returns-in-Commit c =
     let a = c.args in
     takes_commit a.tag.now a.session _ a.«data».now _ c.number16-pin.ensures _ _ c.in-Commit.is
-    c.number16.ensures c.commit.ensures
+    c.number16.ensures (rw (← lent_whole _ _ (λ y. y.now) _ 16 _ _ c.unwrap-block.ensures c.as_array.ensures.cases) c.commit.ensures)
 
 pub returns-in-Pa : goal.returns-in-Pa
 unfolding with_pa
 returns-in-Pa c =
     let a = c.args in
-    takes_pa a.tag.now a.session _ a.«data».now _ c.requires.whole c.sixteen-new.ensures
+    takes_pa a.tag.now a.session _ a.«data».now _ (lent_whole _ _ (λ y. y.now) _ 16 _ _ c.unwrap-block.ensures c.as_array.ensures.cases)
     c.in-Pa.is

@@ -3,16 +3,17 @@ use Rattle.rules.specs.Log.{count_of, data_length}
 use Rattle.std.proofs.Common.{◌-◌, ◌≡◌, arith, ne_eqb}
 use Rattle.reply_lines.proofs.data_length.Goals as goal
 
-pub returns-then-code-eq81 : goal.returns-then-code-eq81
+pub returns-in-81 : goal.returns-in-81
 unfolding data_length
-returns-then-code-eq81 c = rw c.if-code-eq81.true
+returns-in-81 c = rw c.in-81.is
 
-pub returns-then-code-lt64 : goal.returns-then-code-lt64
+pub returns-in-0-to-63 : goal.returns-in-0-to-63
 unfolding data_length count_of
-returns-then-code-lt64 c =
+returns-in-0-to-63 c =
     let none : c.args.code - 0x40 ≡ 0 = omega arith in
-    rw (ne_eqb _ _ c.if-code-eq81.false, none)
+    let other = ne_eqb c.args.code 0x51 (λ e. omega arith) in
+    rw (other, none)
 
-pub returns : goal.returns
+pub returns-in_default : goal.returns-in_default
 unfolding data_length
-returns c = rw (ne_eqb _ _ c.if-code-eq81.false) c.count_of.ensures.0
+returns-in_default c = rw (ne_eqb c.args.code 0x51 (λ e. omega arith)) c.count_of.ensures.0

@@ -11,9 +11,9 @@ returns c =
     let ws = a.words.now in
     let words : Words ws = λ i l. grind arith in
     let there_and_back =
-    c.decipher.ensures.1
-    ∙ ap (deciphered a.first) c.encipher.ensures.1
+    c.decipher.ensures.words
+    ∙ ap (deciphered a.first) c.encipher.ensures.words
     ∙ each_undoes_the_other.deciphering a.first ws words in
-    c.encipher-2.ensures.1
-    ∙ ap (enciphered a.second) (c.decipher-2.ensures.1 ∙ ap (deciphered a.second) there_and_back)
+    c.encipher-2.ensures.words
+    ∙ ap (enciphered a.second) (c.decipher-2.ensures.words ∙ ap (deciphered a.second) there_and_back)
     ∙ each_undoes_the_other.enciphering a.second ws words

@@ -10,5 +10,5 @@ returns c =
       session_read b _ _ _ _ _ _ c.number16.ensures c.number16-2.ensures
           c.number16-3.ensures (c.sixteen.ensures ∙ block_lent 6 b (omega arith))
           (c.sixteen-2.ensures ∙ block_lent 22 b (omega arith)) (c.sixteen-3.ensures ∙ block_lent 38 b (omega arith)),
-      record { size = c.requires; bytes = λ i. (c.type_inv.bytes i).fits },
+      record { size = c.told-bytes; bytes = c.fits-bytes },
     )

@@ -5,4 +5,4 @@ use Rattle.units.proofs.unit_of.Goals as goal
 pub returns : goal.returns
 unfolding unit_of bit
 returns c =
-    rw (c.requires.1, c.number16.ensures, c.number16-2.ensures, c.number16-3.ensures)
+    rw (c.requires, c.number16.ensures, c.number16-2.ensures, c.number16-3.ensures)

@@ -8,7 +8,7 @@ pub returns : goal.returns
 unfolding bit part
 returns c =
     rw (
-      well_formed_but_model _ c.requires.1,
+      well_formed_but_model _ c.requires,
       c.all_zero.ensures,
       c.number16.ensures,
       c.number16-2.ensures,

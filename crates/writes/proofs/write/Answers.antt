@@ -11,6 +11,3 @@ returns-then-not-is_sound c =
     let a = c.args in
     let n = sym c.requires ∙ c.if-not-is_sound.true in
     unsound E (state a.tag.now a.session) (write a.address a.«data».now) tt n
-
-pub write_sound-requires : goal.write_sound-requires
-write_sound-requires c = sym c.requires ∙ c.if-not-is_sound.false

@@ -8,11 +8,9 @@ pub loop-p-init : goal.loop-p-init
 loop-p-init c = stands_first up _ _ _ (omega arith)
 
 pub loop-p-preserved : goal.loop-p-preserved
-loop-p-preserved c =
-    let at = c.loop-p in
-    stands_next up _ _ _ at.invariant c.mix.ensures c.wrapping_add_u32-z.ensures.value (at.p + 1) refl (omega arith) refl
+loop-p-preserved c = stands_next up _ _ _ c.loop-p.invariant c.mix.ensures (c.loop-p.p + 1) refl (omega arith) refl
 
 pub returns : goal.returns
 returns c =
     let end : c.loop-p.p ≡ length c.args.words.now - 1 = omega arith in
-    stands_last up _ _ _ (rw end at c.loop-p.invariant) c.mix-2.ensures c.wrapping_add_u32.ensures.value refl refl
+    stands_last up _ _ _ (rw end at c.loop-p.invariant) c.mix-2.ensures refl refl

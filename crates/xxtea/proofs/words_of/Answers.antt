@@ -1,12 +1,14 @@
--- `xxtea::words_of` meets its contract: the bytes one by one, and each call's word. Assumes nothing.
-use Rattle.std.proofs.Common.{ap}
-use Rattle.xxtea.proofs.Block.{from, listed}
-use Rattle.xxtea.specs.Block.{words_of}
+-- `xxtea::words_of` meets its contract: word i is that of chunk i. Assumes nothing.
+use Rattle.std.proofs.Common.{rules, ◌≡◌, ℕ, ◌<◌, [], ◌∙◌, get_or, w32}
+use Rattle.std.proofs.lemmas.List.FromFn.{fill_by_all}
+use Rattle.std.specs.Int.{from_le_bytes}
+use Rattle.std.specs.Simd.{first_chunks}
+use Rattle.xxtea.proofs.Block.{words_made}
 use Rattle.xxtea.proofs.words_of.Goals as goal
 
 pub returns : goal.returns
-unfolding from words_of
 returns c =
-    let bytes = c.args.bytes in
-    rw (c.word.ensures, c.word-2.ensures, c.word-3.ensures, c.word-4.ensures)
-    (ap words_of (listed 16 bytes c.well_formed.0.1.0.1))
+    let chunks = c.as_chunks.result.0.now in
+    let each : (i : ℕ) → i < 4 → get_or c.from_fn.result i 0 ≡ from_le_bytes w32 (get_or chunks i []) = λ i h. search rules in
+    let front : chunks ≡ first_chunks 4 4 c.args.bytes = search rules in
+    fill_by_all _ c.from_fn.result 4 0 c.from_fn.ensures.items.long each ∙ words_made c.args.bytes (search rules) chunks front

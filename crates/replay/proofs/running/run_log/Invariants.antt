@@ -4,10 +4,10 @@ use Rattle.rules.specs.State.{state}
 use Rattle.replay.proofs.WholeLaws.{Behind}
 use Rattle.replay.proofs.running.run_log.Given as goal
 
-abbrev pub invariant-loop-run : goal.invariant-loop-run
-invariant-loop-run g l =
+abbrev pub invariant-loop-part : goal.invariant-loop-part
+invariant-loop-part g l =
     (length l.image ≡ length l.initial.image) × (l.read ≤ length l.log) × (l.written ≤ 4096 * l.read)
     × Behind (state l.initial.image l.initial.session) l.log (state l.image l.session) l.read l.written
 
-abbrev pub decreases-loop-run : goal.decreases-loop-run
-decreases-loop-run g l = length l.log - l.read
+abbrev pub decreases-loop-part : goal.decreases-loop-part
+decreases-loop-part g l = length l.log - l.read

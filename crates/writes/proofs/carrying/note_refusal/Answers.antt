@@ -5,7 +5,6 @@ use Rattle.rules.specs.Effects.{apply, refusal_stores}
 use Rattle.rules.specs.Map.{flag_at}
 use Rattle.std.proofs.Common.{ap, sym, ◌∙◌}
 use Rattle.writes.proofs.ActLaws.{quiet}
-use borrow.Enum.Refused.{opened}
 use Rattle.writes.proofs.carrying.note_refusal.Goals as goal
 
 pub returns-in-WrongResponse : goal.returns-in-WrongResponse
@@ -16,4 +15,4 @@ returns-in-WrongResponse c =
 
 pub returns-in_default : goal.returns-in_default
 unfolding apply
-returns-in_default c = sym (ap (λ ss. apply ss c.args.tag.now) (quiet c.args.refusal (opened c.in_default.in_default-own.keys2)))
+returns-in_default c = sym (ap (λ ss. apply ss c.args.tag.now) (quiet c.args.refusal c.in_default.not-WrongResponse))

@@ -2,15 +2,10 @@
 -- Assumes nothing.
 use Rattle.octets.proofs.Laws.{part_lent}
 use Rattle.rules.specs.Refusals.{lowest, write_checks}
-use Rattle.std.proofs.Common.{sym, ap, length, rules}
-use Rattle.units.proofs.Laws.{unit_length}
+use Rattle.std.proofs.Common.{sym, ap, length}
 use Rattle.writes.proofs.JudgeLaws.{judged_as, checks_at}
 use Rattle.writes.specs.Verdict.{act_in}
 use Rattle.writes.proofs.judging.judge_segment_at.Goals as goal
-
-pub judge_segment_write-requires : goal.judge_segment_write-requires
-judge_segment_write-requires c =
-    (unit_length _ _ _ c.unit_of.ensures c.requires.2, search rules)
 
 pub returns : goal.returns
 unfolding write_checks act_in

@@ -1,19 +1,12 @@
 -- `writes::judging::judge_slot` meets its contract: the shape, then the value. Assumes nothing.
-use Rattle.rules.proofs.Tests.{and_true}
 use Rattle.rules.proofs.Values.{value_unshaped}
 use Rattle.rules.specs.Refusals.{lowest, value_checks, slot_checks}
-use Rattle.std.proofs.Common.{◌%◌, sym, ap, ◌∙◌, eqb, eqb-true}
+use Rattle.std.proofs.Common.{sym, ap, ◌∙◌}
 use Rattle.writes.proofs.judging.judge_slot.Goals as goal
 
 pub returns-then-not-at-data : goal.returns-then-not-at-data
 unfolding slot_checks
 returns-then-not-at-data c = sym (value_unshaped _ _ _ (c.if-not-at-data.true))
-
-pub judge_value-requires : goal.judge_value-requires
-judge_value-requires c =
-    let both = and_true (eqb (c.args.at % 8) 0) _ (c.if-not-at-data.false) in
-    let eight = eqb-true _ _ both.1 in
-    (c.requires ∙ eight, eight)
 
 pub returns : goal.returns
 unfolding slot_checks

@@ -9,30 +9,31 @@ whole : (t : List ℕ) (v : ℕ) → length t ≡ 8 → v ≡ number (part 0 8 t
 unfolding part
 whole t v l e = e ∙ ap number (take_all 8 t (omega arith))
 
-pub returns-then-value-stored : goal.returns-then-value-stored
-returns-then-value-stored c =
+pub returns-in-Some-eq0 : goal.returns-in-Some-eq0
+returns-in-Some-eq0 c =
     let stored = whole _ _ c.requires.0 c.number64-stored.ensures in
     let value = whole _ _ c.requires.1 c.number64-value.ensures in
-    sym (value_repeated _ _ (omega (arith, stored, value, c.if-value-stored.true)))
+    let gap = c.in-Some-eq0.ensures in
+    sym (value_repeated _ _ (omega (arith, stored, value, gap.0, gap.1, c.in-Some-eq0.field-0-test)))
 
-pub returns-then-value-stored-2 : goal.returns-then-value-stored-2
-returns-then-value-stored-2 c =
+pub returns-in-Some-eq1 : goal.returns-in-Some-eq1
+returns-in-Some-eq1 c =
     let stored = whole _ _ c.requires.0 c.number64-stored.ensures in
     let value = whole _ _ c.requires.1 c.number64-value.ensures in
-    let below = c.if-value-stored-2.true in
+    let gap = c.in-Some-eq1.ensures in
+    sym (value_next _ _ (omega (arith, stored, value, gap.0, gap.1, c.in-Some-eq1.field-0-test)))
+
+pub returns-in-Some : goal.returns-in-Some
+returns-in-Some c =
+    let stored = whole _ _ c.requires.0 c.number64-stored.ensures in
+    let value = whole _ _ c.requires.1 c.number64-value.ensures in
+    let gap = c.in-Some.ensures in
+    let other = c.in-Some.field-0-test in
+    sym (value_other _ _ (omega (arith, stored, value, gap.0, gap.1, other.0.1)) (omega (arith, stored, value, gap.0, gap.1, other.1)))
+
+pub returns-in-None : goal.returns-in-None
+returns-in-None c =
+    let stored = whole _ _ c.requires.0 c.number64-stored.ensures in
+    let value = whole _ _ c.requires.1 c.number64-value.ensures in
+    let below = c.in-None.ensures in
     sym (value_other _ _ (omega (arith, stored, value, below)) (omega (arith, stored, value, below)))
-
-pub returns-then-value-stored-ne1 : goal.returns-then-value-stored-ne1
-returns-then-value-stored-ne1 c =
-    let stored = whole _ _ c.requires.0 c.number64-stored.ensures in
-    let value = whole _ _ c.requires.1 c.number64-value.ensures in
-    let other = c.if-value-stored.false in
-    let gap = c.if-value-stored-ne1.true in
-    sym (value_other _ _ (omega (arith, stored, value, other)) (omega (arith, stored, value, gap)))
-
-pub returns : goal.returns
-returns c =
-    let stored = whole _ _ c.requires.0 c.number64-stored.ensures in
-    let value = whole _ _ c.requires.1 c.number64-value.ensures in
-    let above = c.if-value-stored-2.false in
-    sym (value_next _ _ (omega (arith, stored, value, above, c.if-value-stored-ne1.false)))

@@ -1,18 +1,14 @@
 -- `writes::judging::judge_write` meets its contract: the count, then the place. Assumes nothing.
-use Rattle.layout.specs.Found.{found}
-use Rattle.rules.proofs.Tests.{or_false, gives, leaves, joined}
+use Rattle.rules.proofs.Tests.{or_false, gives, leaves, joined, handed_missing}
 use Rattle.rules.specs.Command.{in_place, checks, write}
 use Rattle.rules.specs.Map.{sound, place_of}
 use Rattle.rules.specs.Refusals.{lowest, write_checks}
 use Rattle.rules.specs.State.{Cipher, State}
 use Rattle.rules.specs.declared.Refusal.TheVariants.{Count, Outside}
-use Rattle.std.proofs.Common.{ℕ, ◌≤◌, ◌≡◌, refl, sym, ap, ◌∙◌, ◌≢◌, true, false, ◌||◌, not, List, arith, length, eqb, ltb}
+use Rattle.std.proofs.Common.{ℕ, ◌≡◌, refl, sym, ap, subst, ◌∙◌, true, false, ◌||◌, not, List, length, eqb, ltb}
 use Rattle.writes.proofs.JudgeLaws.{refuses, judged_as}
-use borrow.Author.Tests.{eqb-false}
+use Rattle.writes.specs.Verdict.{Judged}
 use Rattle.writes.proofs.judging.judge_write.Goals as goal
-
-some_bytes : (n : ℕ) → (eqb n 0 || ltb 4096 n) ≡ false → 1 ≤ n
-some_bytes n e = let f : n ≢ 0 = eqb-false n 0 (or_false _ _ e).0 in omega arith
 
 -- where none does, the place decides
 place-decides : (E : Cipher) (s : State) (a : ℕ) (bs : List ℕ) → sound s.tag ≡ true
@@ -28,23 +24,18 @@ unfolding checks
 returns-then-n c =
     refuses _ _ Count (leaves 1 _ _ (ap not c.requires) ∙ joined 2 _ _ _ ∙ gives 2 _ _ c.if-n.true)
 
-pub place_of-requires : goal.place_of-requires
-place_of-requires c = (c.requires, some_bytes _ c.if-n.false)
-
-pub returns-in_default : goal.returns-in_default
+pub returns-in_err-place : goal.returns-in_err-place
 unfolding in_place
-returns-in_default c =
-    let Found-None = sym c.place_of.ensures ∙ ap found c.in_default.is in
+returns-in_err-place c =
+    let e = c.in_err-place.ensures in
+    let nowhere = sym c.place_of.ensures ∙ e.ok_part in
     let decides = place-decides _ _ _ _ c.requires c.if-n.false in
-    refuses _ _ Outside (decides ∙ rw Found-None (gives 3 _ _ refl))
-
-pub judge_write_in-requires : goal.judge_write_in-requires
-judge_write_in-requires c =
-    (c.requires, sym c.place_of.ensures ∙ ap found c.in-In.is)
+    subst (Judged _ _) (sym (handed_missing _ _ _ _ e.ok_part e.value c.from_residual.ensures.1))
+    (refuses _ _ Outside (decides ∙ rw nowhere (gives 3 _ _ refl)))
 
 pub returns : goal.returns
 unfolding in_place
 returns c =
-    let found_in = sym c.place_of.ensures ∙ ap found c.in-In.is in
+    let found = sym c.place_of.ensures ∙ c.in_ok-place.ensures.ok_part in
     let decides = place-decides _ _ _ _ c.requires c.if-n.false in
-    rw found_in (judged_as _ _ _ _ (sym (decides ∙ rw found_in)) c.judge_write_in.ensures)
+    rw found (judged_as _ _ _ _ (sym (decides ∙ rw found)) c.judge_write_in.ensures)

@@ -1,42 +1,42 @@
 -- `writes::judging::judge_write_in` meets its contract: place by place. Assumes nothing.
-use Rattle.rules.specs.contracts.Place as the-place
 use Rattle.layout.proofs.Laws.{unit_found, segment_found}
 use Rattle.rules.proofs.MapLaws.{sizes}
 use Rattle.rules.proofs.Tests.{gives, none_applies}
-use Rattle.rules.specs.Refusals.{lowest, never, write_checks}
+use Rattle.rules.specs.Refusals.{lowest, write_checks}
 use Rattle.rules.specs.State.{Cipher, State}
 use Rattle.rules.specs.declared.Place.TheVariants.{Header, Hidden, RegisterOf, Pins, Readers, UnitOf, Spare, Segment, Public}
 use Rattle.rules.specs.declared.Place.{Place}
+use Rattle.rules.specs.declared.Register.{Register}
 use Rattle.rules.specs.declared.Refusal.TheVariants.{NeverTaken}
-use Rattle.std.proofs.Common.{ℕ, ◌≡◌, refl, ap, ◌∙◌, List, [], ◌∷◌, arith}
-use Rattle.writes.proofs.JudgeLaws.{refuses, acts, judged}
+use Rattle.std.proofs.Common.{ℕ, ◌≡◌, ◌≢◌, refl, sym, List, arith}
+use Rattle.std.specs.Prelude.{Some}
+use Rattle.writes.proofs.JudgeLaws.{refuses, acts, passed_on}
 use Rattle.writes.specs.Verdict.{act_in}
-use denote.Enum.Declared.{tag_of}
-use types.Run.{OneOf, miss}
 use Rattle.writes.proofs.judging.judge_write_in.Goals as goal
 
--- the places that no arm names
-never-taken : (E : Cipher) (s : State) (p : Place) (a : ℕ) (bs : List ℕ)
-    → OneOf (1 ∷ 3 ∷ 4 ∷ 6 ∷ []) (tag_of the-place.the_type p) → write_checks E s p a bs ≡ never
+-- the places that take no write
+never-taken : (E : Cipher) (s : State) (p : Place) (a : ℕ) (bs : List ℕ) → p ≢ Header
+    → ((r : Register) → p ≢ RegisterOf r) → ((k : ℕ) → p ≢ UnitOf k) → ((k : ℕ) → p ≢ Segment k)
+    → ((k : ℕ) → p ≢ Public k) → lowest (write_checks E s p a bs) ≡ Some 4
 unfolding write_checks
-never-taken E s Hidden a bs o = refl
-never-taken E s Pins a bs o = refl
-never-taken E s Readers a bs o = refl
-never-taken E s Spare a bs o = refl
-never-taken E s Header a bs o = absurd (miss (1 ∷ 3 ∷ 4 ∷ 6 ∷ []) 0 tt o)
-never-taken E s (RegisterOf r) a bs o = absurd (miss (1 ∷ 3 ∷ 4 ∷ 6 ∷ []) 2 tt o)
-never-taken E s (UnitOf k) a bs o = absurd (miss (1 ∷ 3 ∷ 4 ∷ 6 ∷ []) 5 tt o)
-never-taken E s (Segment k) a bs o = absurd (miss (1 ∷ 3 ∷ 4 ∷ 6 ∷ []) 7 tt o)
-never-taken E s (Public k) a bs o = absurd (miss (1 ∷ 3 ∷ 4 ∷ 6 ∷ []) 8 tt o)
+never-taken E s Header a bs h r u g b = absurd (h refl)
+never-taken E s Hidden a bs h r u g b = gives 4 _ _ refl
+never-taken E s (RegisterOf i) a bs h r u g b = absurd (r i refl)
+never-taken E s Pins a bs h r u g b = gives 4 _ _ refl
+never-taken E s Readers a bs h r u g b = gives 4 _ _ refl
+never-taken E s (UnitOf k) a bs h r u g b = absurd (u k refl)
+never-taken E s Spare a bs h r u g b = gives 4 _ _ refl
+never-taken E s (Segment k) a bs h r u g b = absurd (g k refl)
+never-taken E s (Public k) a bs h r u g b = absurd (b k refl)
 
 pub judge_header-requires : goal.judge_header-requires
 judge_header-requires c = omega (arith, (sizes _ c.requires.0).smallest)
 
-pub judge-answer-requires : goal.judge-answer-requires
-judge-answer-requires c = omega (arith, (sizes _ c.requires.0).smallest)
+pub judge-requires : goal.judge-requires
+judge-requires c = omega (arith, (sizes _ c.requires.0).smallest)
 
-pub judge_edit-answer-requires : goal.judge_edit-answer-requires
-judge_edit-answer-requires c =
+pub judge_edit-requires : goal.judge_edit-requires
+judge_edit-requires c =
     let found = unit_found _ _ _ _ _ c.requires.0 c.requires.1 c.in-UnitOf.is in
     let inside = found.0.inside in
     let small = found.0.small in
@@ -47,31 +47,37 @@ judge_segment_at-requires c =
     let found = segment_found _ _ _ _ _ c.requires.0 c.requires.1 c.in-Segment.is in
     (found.1, found.2, found.0.inside)
 
-pub returns-in-Header : goal.returns-in-Header
-unfolding write_checks act_in
-returns-in-Header c =
-    rw (c.in-Header.is, c.verdict_of.ensures)
-    (judged _ _ c.judge_header.result refl c.judge_header.ensures)
+pub returns-in_err-judge_header-in-Header : goal.returns-in_err-judge_header-in-Header
+unfolding write_checks
+returns-in_err-judge_header-in-Header c =
+    rw c.in-Header.is (passed_on _ _ _ _ c.from_residual.ensures.1 c.in_err-judge_header-in-Header.ensures)
 
-pub returns-in-RegisterOf : goal.returns-in-RegisterOf
+pub returns-in_ok-judge_header-in-Header : goal.returns-in_ok-judge_header-in-Header
 unfolding write_checks act_in
-returns-in-RegisterOf c =
-    rw (c.in-RegisterOf.is, c.verdict_of-in-RegisterOf.ensures)
-    (judged _ _ c.judge-answer.result refl c.judge-answer.ensures)
+returns-in_ok-judge_header-in-Header c =
+    rw c.in-Header.is (acts _ _ (sym c.in_ok-judge_header-in-Header.ensures))
 
-pub returns-in-UnitOf : goal.returns-in-UnitOf
+pub returns-in_err-judge-in-RegisterOf : goal.returns-in_err-judge-in-RegisterOf
+unfolding write_checks
+returns-in_err-judge-in-RegisterOf c =
+    rw c.in-RegisterOf.is
+    (passed_on _ _ _ _ c.from_residual-in_err-judge-in-RegisterOf.ensures.1 c.in_err-judge-in-RegisterOf.ensures)
+
+pub returns-in_ok-judge-in-RegisterOf : goal.returns-in_ok-judge-in-RegisterOf
+unfolding write_checks act_in
+returns-in_ok-judge-in-RegisterOf c =
+    rw c.in-RegisterOf.is (acts _ _ (sym c.in_ok-judge-in-RegisterOf.ensures))
+
+pub returns-in_ok-judge_edit-in-UnitOf : goal.returns-in_ok-judge_edit-in-UnitOf
 unfolding act_in
-returns-in-UnitOf c =
-    rw (c.in-UnitOf.is, c.verdict_of-in-UnitOf.ensures)
-    (judged _ _ c.judge_edit-answer.result refl c.judge_edit-answer.ensures)
-
-pub returns-in-Segment : goal.returns-in-Segment
-returns-in-Segment c = rw c.in-Segment.is c.judge_segment_at.ensures
+returns-in_ok-judge_edit-in-UnitOf c =
+    rw c.in-UnitOf.is (acts _ _ (sym c.in_ok-judge_edit-in-UnitOf.ensures))
 
 pub returns-in-Public : goal.returns-in-Public
 unfolding write_checks act_in
-returns-in-Public c = rw c.in-Public.is (acts _ _ refl none_applies)
+returns-in-Public c = rw c.in-Public.is (acts _ _ none_applies)
 
 pub returns-in_default : goal.returns-in_default
 returns-in_default c =
-    refuses _ _ NeverTaken (ap lowest (never-taken _ _ _ _ _ c.in_default.in_default-own.keys6) ∙ gives 4 _ _ refl)
+    let d = c.in_default in
+    refuses _ _ NeverTaken (never-taken _ _ _ _ _ d.not-Header d.not-RegisterOf d.not-UnitOf d.not-Segment d.not-Public)

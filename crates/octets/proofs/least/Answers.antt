@@ -1,9 +1,0 @@
--- `octets::least` meets its contract. Assumes nothing.
-use Rattle.std.proofs.Common.{inl, inr, arith}
-use Rattle.octets.proofs.least.Goals as goal
-
-pub returns-then-a-b : goal.returns-then-a-b
-returns-then-a-b c = (omega arith, omega arith, inl (omega arith))
-
-pub returns-else-a-b : goal.returns-else-a-b
-returns-else-a-b c = (omega arith, omega arith, inr (omega arith))
