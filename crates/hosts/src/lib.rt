@@ -117,6 +117,7 @@ fn off_slot(at: usize, offset: usize, n: usize) -> bool
 }
 
 // Whether a row, whose slot is at offset `at`, names another segment than k, or its slot is not among n bytes at an offset.
+// Segment, offset and count stay three arguments, here and below, as the rules' `misses` and `readable` have them.
 fn spares(row: &Row, at: usize, k: usize, offset: usize, n: usize) -> bool
     requires { (at ≤ 4096) × (k < 65536) × (offset + n ≤ 4096) }
     ensures { result ≡ spared k offset n at (host_of row.now) }

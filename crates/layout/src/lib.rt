@@ -44,7 +44,7 @@ pub fn segments(tag: &[u8]) -> usize
     octets::number16(tag, 0)
 }
 
-// P, the number of public segments, in the two bytes behind A's.
+// P, the number of public segments. Two functions, as document 01 names A and P: one with a place would be `number16`.
 pub fn publics(tag: &[u8]) -> usize
     requires { 4 ≤ length tag.now }
     ensures { result ≡ publics tag.now }
@@ -128,8 +128,8 @@ fn register_no(i: usize) -> Register
     }
 }
 
-// The places of the first segment: header, hidden part, registers. Address and count stay two numbers here and above, as a
-// command has them, and `1 ≤ n` a clause: a `NonZeroUsize` would be made of the command's count and read back in every sum.
+// The places of the first segment: header, hidden part, registers. Address and count stay two numbers here and below, and in
+// the crates above, as a command has them, and `1 ≤ n` a clause: a `NonZeroUsize` would be made of the command's count and read back in every sum.
 fn first_place(at: usize, n: usize) -> Option<Place>
     requires { (at + n ≤ 4096) × (1 ≤ n) }
     ensures { (a p : ℕ) → a ≤ most → result ≡ find (rows a p) at n }
@@ -172,7 +172,7 @@ fn unit_place(a: usize, at: usize, n: usize) -> Option<Place>
     }
 }
 
-// The segment of 4,096 bytes that holds n bytes, which do not reach beyond one.
+// The segment of 4,096 bytes that holds n bytes, which do not reach beyond one (a clause: `hosts::off_slot` has why).
 fn segment_place(a: usize, p: usize, at: usize, n: usize) -> Option<Place>
     requires { (a ≤ most) × (segments_at a ≤ at) × (at % 4096 + n ≤ 4096) × (1 ≤ n) }
     ensures { result ≡ find (rows a p) at n }

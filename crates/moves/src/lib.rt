@@ -33,7 +33,8 @@ fn judge_stage(model: Model) -> Result<Stage, Refusal>
     }
 }
 
-// 5, 7, 8 and 14, in this order, by the two parts of the session that these look at.
+// 5, 7, 8 and 14, in this order. It is given two parts of the session, as `judge_insert` and the judges of `writes` are, since
+// the rules' checks take these two. `let .. else`, here and there, as document 01 names it of a malformed unit.
 fn judge_advance(unit: &[u8; 32], write: usize, name: &[u8]) -> Result<Stage, Refusal>
     ensures { MoveJudged (advance_checks write name.now unit.now) (unit_of unit.now).model result }
 {
@@ -45,7 +46,7 @@ fn judge_advance(unit: &[u8; 32], write: usize, name: &[u8]) -> Result<Stage, Re
     judge_stage(u.model)
 }
 
-// It begins as `insert_sound` does, with 3; what is judged and changed differs.
+// It begins as `insert_sound` does, with 3: a function for that test would be as long as the test.
 fn advance_sound(tag: &mut [u8], session: Session, segment: usize) -> Answer
     requires { sound tag.old ≡ true }
     ensures result_value { refusal_of result ≡ refusal E (state tag.old session) (command.advance segment) }

@@ -7,7 +7,8 @@ ghost use Rattle.std.specs.Prelude.{◌≡◌, ◌+◌, ◌<◌, ◌^◌, ◌≤
 ghost use Rattle.rules.specs.Bytes.{bytes_of, number, part, put, same, xor, zeros};
 
 // The number that N bytes hold, most significant first. By Horner's rule eight become one load and a swap of bytes.
-// (By std's `from_be_bytes` a counter write took 338 instructions and not 316, and the C library 18,753 bytes and not 14,541.)
+// (When they were tried: by std's `from_be_bytes` a counter write took 338 instructions and not 316, and the C library 18,753
+// bytes and not 14,541.)
 fn number<const N: usize>(bytes: &[u8], at: usize) -> u64
     requires short { N ≤ 8 }
     requires inside { at + N ≤ length bytes.now }
@@ -47,7 +48,7 @@ pub fn number64(bytes: &[u8], at: usize) -> u64
 }
 
 // Whether two slices hold the same bytes. It looks at all of them, so that 16 are one comparison.
-// (By `a == b` a counter write took 395 instructions and not 316.)
+// (When it was tried: by `a == b` a counter write took 395 instructions and not 316.)
 pub fn equal(a: &[u8], b: &[u8]) -> bool
     ensures { result ≡ same a.now b.now }
 {
@@ -55,7 +56,7 @@ pub fn equal(a: &[u8], b: &[u8]) -> bool
 }
 
 // Whether every byte is 0. It looks at all of them, so that 16 are one comparison.
-// (By `iter().all(..)` a single call of a counter write took 430 instructions and not 396.)
+// (When it was tried: by `iter().all(..)` a single call of a counter write took 430 instructions and not 396.)
 pub fn all_zero(bytes: &[u8]) -> bool
     ensures { result ≡ zeros bytes.now }
 {
@@ -110,7 +111,7 @@ pub fn store16(bytes: &mut [u8], at: usize, value: usize)
     store_at(bytes, at, &((value % 0x10000) as u16).to_be_bytes())
 }
 
-// What is there becomes its XOR with the data: as `store_at`, but for what is called.
+// What is there becomes its XOR with the data: as `store_at`, but for what is called. One over a closure would be longer.
 pub fn xor_at(bytes: &mut [u8], at: usize, data: &[u8])
     requires { at + length «data».now ≤ length bytes.old }
     ensures { bytes.new ≡ put at (xor (part at (length «data».now) bytes.old) «data».now) bytes.old }

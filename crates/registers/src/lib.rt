@@ -85,7 +85,8 @@ fn judge_commit(tag: &[u8], pin: usize, owner: usize, guard: &[u8], data: &[u8; 
     }
 }
 
-// What a write to a register gets.
+// What a write to a register gets. Tag and session stay two arguments, here and above: document 01 keeps the session beside
+// the memory.
 pub fn judge(tag: &[u8], session: Session, register: Register, data: &[u8]) -> Answer
     requires { readers_at ≤ length tag.now }
     ensures { refusal_of result ≡ lowest (register_checks E (state tag.now session) register «data».now) }

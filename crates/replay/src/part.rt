@@ -14,7 +14,8 @@ pub struct Part {
     pub characters: usize,
 }
 
-// As much of the log as a buffer has room for the replies of. The text has three characters for each byte of the buffer.
+// As much of the log as a buffer has room for the replies of. The text has three characters for each byte of the buffer. Both
+// have a fixed size, here and in `run_part`, so that what a run takes does not grow with its log.
 pub fn run_as_text(image: &mut [u8], session: Session, log: &[u8], text: &mut [u8; 12288]) -> Part
     ensures part_run { PartRun (state image.old session) log.now image.new result.run }
     ensures part_text { PartText (state image.old session) log.now text.new result.characters }

@@ -58,7 +58,8 @@ fn judge_header(tag: &[u8], at: usize, data: &[u8]) -> Answer
     judge_value(&tag[layout::COUNTER..layout::FLAG], data)
 }
 
-// What a counter segment answers to data for its old bytes: one aligned slot first, then the value.
+// What a counter segment answers to data for its old bytes: one aligned slot first, then the value. `judge_model` has why the
+// two are two.
 fn judge_slot(at: usize, old: &[u8], data: &[u8]) -> Answer
     requires { length old.now ≡ length «data».now }
     ensures { refusal_of result ≡ lowest (slot_checks Counter at old.now «data».now) }

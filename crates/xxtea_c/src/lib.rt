@@ -8,7 +8,7 @@ ghost use Rattle.rules.specs.Answers.{code_of};
 
 use xxtea::WrongLength;
 
-// An answer is a number for C alone.
+// An answer is a number for C alone. Not `number_of` of `tag_c`: another error, and neither library for C needs the other.
 fn code_of(answer: Result<(), WrongLength>) -> u8
     ensures { result ≡ code_of (refusal answer) }
 {
