@@ -46,18 +46,38 @@ pub fn argument(
     }
 }
 
-// One byte more is read than the input may have, so that a longer one is seen.
-fn read_up_to<R: Read + Drop>(alloc: Global, input: R, most: usize) -> io::Result<Vec<u8>>
-    requires { most < 2 ^ 32 }
-    ensures { IfSome (R.remaining input) (λ bytes. IfOk result (λ read. read.items ≡ take (most + 1) bytes)) }
+// Reads to the end of the input or of the buffer. Each read is offered all that is left of the buffer, since an input that
+// comes in messages loses what a read leaves of one: std's `read_to_end` begins with 512 bytes.
+fn fill<R: Read>(input: &mut R, buffer: &mut [u8]) -> io::Result<usize>
+    ensures within { IfOk result (λ n. n ≤ length buffer.new) }
+    ensures known { IfSome (R.remaining input.old) (λ bytes. IfOk result (λ n. take n buffer.new ≡ take (length buffer.old) bytes)) }
 {
-    let mut read = Vec::new(alloc);
-    input.take(most as u64 + 1).read_to_end(&mut read)?;
+    let mut done = 0;
+    while done < buffer.len() {
+        let more = input.read(&mut buffer[done..])?;
+        if more == 0 {
+            break;
+        }
+        done += more;
+    }
+    Ok(done)
+}
+
+// One byte more is read than the input may have, so that a longer one is seen.
+fn read_up_to<R: Read + Drop>(alloc: Global, mut input: R, most: usize) -> io::Result<Vec<u8>>
+    requires { most < 2 ^ 32 }
+    ensures few { IfOk result (λ read. vec_len read ≤ most + 1) }
+    ensures known { IfSome (R.remaining input) (λ bytes. IfOk result (λ read. read.items ≡ take (most + 1) bytes)) }
+{
+    let mut read = vec![in alloc; 0; most + 1]?;
+    let n = fill(&mut input, &mut read)?;
+    read.truncate(n);
     Ok(read)
 }
 
 fn read_file(rt: &(impl Runtime + AllocGlobal), path: &str, most: usize) -> io::Result<Vec<u8>>
     requires { most < 2 ^ 32 }
+    ensures { IfOk result (λ read. vec_len read ≤ most + 1) }
 {
     read_up_to(rt.alloc(), fs::open(rt, path)?, most)
 }
