@@ -44,11 +44,11 @@ pub number_next : (n i d : ℕ) (ds : List ℕ) → i < length ds → n ≡ numb
     → n * 256 + d ≡ number (take (i + 1) ds)
 number_next n i d ds h e f = rw add-one (omega (arith, e, f, number_more 0 i ds h))
 
-pub be_bytes_two : (v : ℕ) → to_be_bytes w16 (v % 0x10000) ≡ bytes_of 2 v
+pub be_bytes_two : (v w : ℕ) → w ≡ v % 0x10000 → to_be_bytes w16 w ≡ bytes_of 2 v
 unfolding bytes_of
-be_bytes_two v =
-    let high : v % 0x10000 / 256 % 256 ≡ v / 256 % 256 = omega arith in
-    let low : v % 0x10000 % 256 ≡ v % 256 = omega arith in
+be_bytes_two v w e =
+    let high : w / 256 % 256 ≡ v / 256 % 256 = omega (arith, e) in
+    let low : w % 256 ≡ v % 256 = omega (arith, e) in
     rw (high, low)
 
 -- ---- comparing: a test of all is the test so far and that of the rest

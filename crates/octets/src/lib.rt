@@ -104,6 +104,7 @@ pub fn store_at(bytes: &mut [u8], at: usize, data: &[u8])
 }
 
 // A number as two bytes, most significant first, at an address.
+#[tactic(auto, using(crate::proofs::Laws::be_bytes_two))]
 pub fn store16(bytes: &mut [u8], at: usize, value: usize)
     requires { at + 2 ≤ length bytes.old }
     ensures { bytes.new ≡ put at (bytes_of 2 value) bytes.old }

@@ -21,7 +21,7 @@ use Rattle.rules.specs.Bytes.{byte, part, number, zeros, all, put}
 use Rattle.rules.specs.Units.{bit, rfu, model_no, stage_no, model_fits, model_of, model_formed}
 use Rattle.rules.specs.Units.{well_formed, formedness, unit_of, unit_bytes}
 use Rattle.rules.specs.Map.{unit_at}
-use Rattle.rules.specs.Refusals.{is_receiver, is_shared_key, past_stage_zero, same_bool, keeps_model, edit_allowed}
+use Rattle.rules.specs.Refusals.{is_receiver, is_shared_key, past_stage_zero, same_bool, keeps_model, edit_allowed, is_filling, is_inserted}
 use Rattle.rules.proofs.BytesLaws.{byte-part}
 use Rattle.octets.proofs.Laws.{put_two}
 use Rattle.units.specs.Decoded.{decoded}
@@ -166,12 +166,13 @@ no_receiver Counter n = refl
 no_receiver (Receiver g) n = absurd (n g refl)
 no_receiver (SharedKey g) n = refl
 
-pub not_shared : (m : Model) → ((g : KeyStage) → m ≢ SharedKey g) → is_shared_key m ≡ false
-unfolding is_shared_key
-not_shared Default n = refl
-not_shared WriteOnce n = refl
-not_shared Counter n = refl
-not_shared (Receiver g) n = refl
+pub not_shared : (m : Model) → ((g : KeyStage) → m ≢ SharedKey g)
+    → (is_shared_key m ≡ false) × (is_filling m ≡ false) × (is_inserted m ≡ false)
+unfolding is_shared_key is_filling is_inserted
+not_shared Default n = (refl, refl, refl)
+not_shared WriteOnce n = (refl, refl, refl)
+not_shared Counter n = (refl, refl, refl)
+not_shared (Receiver g) n = (refl, refl, refl)
 not_shared (SharedKey g) n = absurd (n g refl)
 
 pub edit_allowed_is : (m : Model) (u w : List ℕ) (x : Unit) → decoded w ≡ Some x

@@ -1,8 +1,11 @@
--- Laws that the judges of writes share: the verdict that follows from the lowest refusal, and that a slot's alignment is
--- that of its address. Assumes nothing.
+-- Laws of the judges of writes: the verdict that follows from the lowest refusal, that a slot's alignment is that of its
+-- address, and how a value stands to the one that is stored. Assumes nothing.
 use Rattle.std.specs.Prelude.{None, Some, Ok, Err, IsErrAnd}
-use Prim.Native.Nat.{ℕ, ◌-◌, ◌%◌, ◌≤◌}
-use mathlib.Core.Path.{◌≡◌, refl, sym, subst, ◌∙◌}
+use Prim.Native.Nat.{ℕ, ◌+◌, ◌-◌, ◌%◌, ◌≤◌}
+use Rattle.std.proofs.Common.{length, take_all, true, ◌≢◌}
+use Rattle.rules.specs.Bytes.{part, number}
+use Rattle.rules.proofs.Values.{value_next, value_repeated, value_other}
+use mathlib.Core.Path.{◌≡◌, refl, sym, subst, ap, ◌∙◌}
 use mathlib.Core.List.{List}
 use native.Mathlib.Omega.{arith}
 use Rattle.rules.specs.declared.Model.{Model}
@@ -11,7 +14,7 @@ use Rattle.rules.specs.declared.Refusal.{Refusal}
 use Rattle.rules.specs.Map.{segment_at}
 use Rattle.rules.specs.Units.{unit_of}
 use Rattle.rules.specs.Answers.{number_of}
-use Rattle.rules.specs.Refusals.{Checks, lowest, slot_checks, segment_write_checks}
+use Rattle.rules.specs.Refusals.{Checks, lowest, value_checks, slot_checks, segment_write_checks}
 use Rattle.rules.proofs.Tests.{some_none, handed_on}
 use Rattle.rules.proofs.MapLaws.{segments_aligned}
 use Rattle.writes.specs.declared.judging.Act.{Act}
@@ -50,3 +53,27 @@ pub checks_at : (write : ℕ) (name u : List ℕ) (A k a : ℕ) (old bs : List �
     → segment_write_checks write name u (a - segment_at A k) old bs ≡ segment_write_checks write name u a old bs
 unfolding segment_write_checks
 checks_at write name u A k a old bs h = rw (slot_at (unit_of u).model A k a old bs h)
+
+-- ---- how a value stands to the one that is stored, each in eight bytes
+
+-- eight bytes are the whole of a list of eight
+whole : (t : List ℕ) (v : ℕ) → length t ≡ 8 → v ≡ number (part 0 8 t) → v ≡ number t
+unfolding part
+whole t v l e = e ∙ ap number (take_all 8 t (omega arith))
+
+module _ (old new : List ℕ) (s v : ℕ) (l : length old ≡ 8) (m : length new ≡ 8)
+    (e : s ≡ number (part 0 8 old)) (f : v ≡ number (part 0 8 new)) where
+  stored : s ≡ number old
+  stored = whole old s l e
+
+  value : v ≡ number new
+  value = whole new v m f
+
+  pub told_repeated : v ≡ s → Some 18 ≡ lowest (value_checks true old new)
+  told_repeated h = sym (value_repeated _ _ (omega (arith, stored, value, h)))
+
+  pub told_next : v ≡ s + 1 → None ≡ lowest (value_checks true old new)
+  told_next h = sym (value_next _ _ (omega (arith, stored, value, h)))
+
+  pub told_other : v ≢ s → v ≢ s + 1 → Some 12 ≡ lowest (value_checks true old new)
+  told_other h k = sym (value_other _ _ (λ g. h (omega (arith, stored, value, g))) (λ g. k (omega (arith, stored, value, g))))

@@ -32,6 +32,7 @@ pub enum Act {
 
 // How eight bytes stand to the value that is stored: the next is granted, the same is 18, and any other 12. A lower
 // value has no difference (`None`).
+#[tactic(auto, using(crate::proofs::JudgeLaws::told_repeated, crate::proofs::JudgeLaws::told_next, crate::proofs::JudgeLaws::told_other))]
 fn judge_value(old: &[u8], new: &[u8]) -> Answer
     requires { (length old.now ≡ 8) × (length new.now ≡ 8) }
     ensures { refusal_of result ≡ lowest (value_checks true old.now new.now) }

@@ -2,14 +2,13 @@
 use Rattle.layout.proofs.Laws.{unit_found, segment_found}
 use Rattle.rules.proofs.MapLaws.{sizes}
 use Rattle.rules.proofs.Tests.{gives, none_applies}
-use Rattle.rules.specs.Refusals.{lowest, write_checks}
+use Rattle.rules.specs.Refusals.{lowest, never, write_checks}
 use Rattle.rules.specs.State.{Cipher, State}
 use Rattle.rules.specs.declared.Place.TheVariants.{Header, Hidden, RegisterOf, Pins, Readers, UnitOf, Spare, Segment, Public}
 use Rattle.rules.specs.declared.Place.{Place}
 use Rattle.rules.specs.declared.Register.{Register}
 use Rattle.rules.specs.declared.Refusal.TheVariants.{NeverTaken}
-use Rattle.std.proofs.Common.{ℕ, ◌≡◌, ◌≢◌, refl, sym, List, arith}
-use Rattle.std.specs.Prelude.{Some}
+use Rattle.std.proofs.Common.{ℕ, ◌≡◌, ◌≢◌, refl, sym, ap, ◌∙◌, List, arith}
 use Rattle.writes.proofs.JudgeLaws.{refuses, acts, passed_on}
 use Rattle.writes.specs.Verdict.{act_in}
 use Rattle.writes.proofs.judging.judge_write_in.Goals as goal
@@ -17,15 +16,15 @@ use Rattle.writes.proofs.judging.judge_write_in.Goals as goal
 -- the places that take no write
 never-taken : (E : Cipher) (s : State) (p : Place) (a : ℕ) (bs : List ℕ) → p ≢ Header
     → ((r : Register) → p ≢ RegisterOf r) → ((k : ℕ) → p ≢ UnitOf k) → ((k : ℕ) → p ≢ Segment k)
-    → ((k : ℕ) → p ≢ Public k) → lowest (write_checks E s p a bs) ≡ Some 4
+    → ((k : ℕ) → p ≢ Public k) → write_checks E s p a bs ≡ never
 unfolding write_checks
 never-taken E s Header a bs h r u g b = absurd (h refl)
-never-taken E s Hidden a bs h r u g b = gives 4 _ _ refl
+never-taken E s Hidden a bs h r u g b = refl
 never-taken E s (RegisterOf i) a bs h r u g b = absurd (r i refl)
-never-taken E s Pins a bs h r u g b = gives 4 _ _ refl
-never-taken E s Readers a bs h r u g b = gives 4 _ _ refl
+never-taken E s Pins a bs h r u g b = refl
+never-taken E s Readers a bs h r u g b = refl
 never-taken E s (UnitOf k) a bs h r u g b = absurd (u k refl)
-never-taken E s Spare a bs h r u g b = gives 4 _ _ refl
+never-taken E s Spare a bs h r u g b = refl
 never-taken E s (Segment k) a bs h r u g b = absurd (g k refl)
 never-taken E s (Public k) a bs h r u g b = absurd (b k refl)
 
@@ -80,4 +79,5 @@ returns-in-Public c = rw c.in-Public.is (acts _ _ none_applies)
 pub returns-in_default : goal.returns-in_default
 returns-in_default c =
     let d = c.in_default in
-    refuses _ _ NeverTaken (never-taken _ _ _ _ _ d.not-Header d.not-RegisterOf d.not-UnitOf d.not-Segment d.not-Public)
+    let refused = never-taken _ _ _ _ _ d.not-Header d.not-RegisterOf d.not-UnitOf d.not-Segment d.not-Public in
+    refuses _ _ NeverTaken (ap lowest refused ∙ gives 4 _ _ refl)
