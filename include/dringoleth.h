@@ -44,8 +44,8 @@ extern "C" {
  */
 #define DRINGOLETH_SESSION_BYTES 54
 
-/* The stack that a call needs at most, its arguments included. Measured, over calls and runs of every command: 912 by
- * dringoleth_run, 752 by dringoleth_write, 416 and less by the others (bindings/c/stack.c). */
+/* The stack that a call needs at most, its arguments included. Measured, over calls and runs of every command: 1,072 by
+ * dringoleth_run, 704 by dringoleth_write, 416 and less by the others (bindings/c/stack.c). */
 #define DRINGOLETH_STACK_BYTES 1280
 
 /* What a command answers: 0, or the number of the lowest refusal that applies. A refused command changes no byte of

@@ -22,7 +22,7 @@ use Rattle.octets.proofs.Laws.{block_whole, length_lent}
 use Rattle.reads.proofs.Laws.{read_stays}
 use Rattle.xxtea.specs.Block.{E}
 use Rattle.command_log.specs.Next.{read_head, read_length}
-use Rattle.tag.specs.declared.Replied.{Replied}
+use Rattle.tag.specs.Replies.{Replied}
 use Rattle.tag.specs.Replies.{Written, Answered, Replies}
 
 -- ---- a store in a part that is lent

@@ -30,7 +30,7 @@ use Rattle.xxtea.specs.Block.{E}
 use Rattle.command_log.specs.declared.Next.{Next}
 use Rattle.command_log.specs.declared.Next.TheVariants as next
 use Rattle.command_log.specs.Next.{ComesNext, kind_of, command_at, length_of, room_asked}
-use Rattle.tag.specs.declared.Replied.{Replied}
+use Rattle.tag.specs.Replies.{Replied}
 use Rattle.tag.specs.Replies.{Replies, reply_for, after_for}
 use Rattle.tag.proofs.Laws.{put-part-back}
 

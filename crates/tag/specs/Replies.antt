@@ -10,7 +10,6 @@ use Rattle.rules.specs.Log.{count_of, encoded}
 use Rattle.command_log.specs.declared.Next.{Next}
 use Rattle.command_log.specs.declared.Next.TheVariants as next
 use Rattle.command_log.specs.Next.{kind_of, command_in, length_of, room_asked}
-use Rattle.tag.specs.declared.Replied.{Replied}
 
 -- what is replied to the command that comes next, with the length of its body, and the state after it; `None` is a 15
 abbrev pub reply_for : Cipher → State → Option (Command × ℕ) → Reply
@@ -35,6 +34,14 @@ read_counted a d = read a (count_of d) (count_of d)
 pub record Written (r : Reply) (out o : List ℕ) (n : ℕ) : Type 0 where
   pub bytes : o ≡ put 0 (encoded r) out
   pub count : n ≡ length (encoded r)
+
+-- what a command of a log leaves beside the tag and its reply: the length of the reply, and the session
+pub record Replied : Type 0 where
+  pub written : ℕ
+  pub session : Session
+
+abbrev pub replied : ℕ → Session → Replied
+replied n v = record { written = n; session = v }
 
 -- the answer a, replied so, and the session v: x is handed back
 pub record Answered (a : Answer) (v : Session) (out o : List ℕ) (x : Replied) : Type 0 where

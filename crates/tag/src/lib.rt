@@ -13,10 +13,10 @@ ghost use Rattle.rules.specs.Log.{count_of};
 ghost use Rattle.rules.specs.Runs.{returned, result as left_by, run_over};
 ghost use Rattle.xxtea.specs.Block.{E};
 ghost use Rattle.command_log.specs.Next.{command_in};
-ghost use Rattle.tag.specs.Replies.{Answered, Room, Written, Replies, read_counted};
+ghost use Rattle.tag.specs.Replies.{Room, Written, Replies, read_counted, replied};
 
 use command_log::Next;
-use rules::{Answer, Outcome, Refusal, Session, Stop};
+use rules::{Outcome, Refusal, Session, Stop};
 
 // The session after power-up.
 pub fn power_up() -> Session
@@ -92,62 +92,64 @@ fn reply_read(
     command_log::put_read(output, answer, digit)
 }
 
-// What a command of a log leaves beside the tag and its reply: the reply's length, and the session.
-#[derive(Clone, Copy)]
-struct Replied {
-    written: usize,
-    session: Session,
-}
-
-// The reply to a command that gives no bytes, and the session after it.
-fn reply_with(output: &mut [u8], answer: Answer, session: Session) -> Replied
-    requires { 2 ≤ length output.old }
-    ensures { Answered answer session output.old output.new result }
+// A session takes another's place, field by field: copied as a whole, two indexes would be read at once behind two stores of
+// one, and the processor waits for these. An array is stored from a name of its own: no proof covers it otherwise.
+fn replace(session: &mut Session, after: Session)
+    ensures { session.new ≡ after }
 {
-    Replied {
-        written: command_log::put_answer(output, answer),
-        session,
-    }
+    let name = after.name;
+    let id = after.id;
+    let pa = after.pa;
+    session.name = name;
+    session.id = id;
+    session.pa = pa;
+    session.read = after.read;
+    session.write = after.write;
+    session.edit = after.edit;
 }
 
-// Carries out what comes next in a log, whose bytes these are, and puts its reply at the start of the output. A 15, which has
-// no bytes, is replied too.
+// Carries out what comes next in a log, whose bytes these are, and puts its reply at the start of the output; the reply's
+// length is handed back. A 15, which has no bytes, is replied too. The session is lent, so that it is copied where a command
+// changes it and not behind each.
 fn reply_to(
     tag: &mut [u8],
     is_sound: bool,
-    session: Session,
+    session: &mut Session,
     next: Option<Next>,
     bytes: &[u8],
     output: &mut [u8],
-) -> Replied
+) -> usize
     requires { (is_sound ≡ sound tag.old) × Room next bytes.now output.old }
-    ensures { Replies E (state tag.old session) (command_in bytes.now next) output.old tag.new output.new result }
+    ensures { Replies E (state tag.old session.old) (command_in bytes.now next) output.old tag.new output.new (replied result session.new) }
 {
     let Some(next) = next else {
-        return reply_with(output, Err(Refusal::Unreadable), session);
+        return command_log::put_answer(output, Err(Refusal::Unreadable));
     };
     match next {
-        Next::PowerUp => reply_with(output, Ok(()), power_up()),
+        Next::PowerUp => {
+            *session = power_up();
+            command_log::put_answer(output, Ok(()))
+        }
         Next::Read(digit) => {
             let address = octets::number32(bytes, 1);
-            let written = reply_read(tag, is_sound, session, address, digit, output);
-            Replied { written, session }
+            reply_read(tag, is_sound, *session, address, digit, output)
         }
         Next::Write(_) => {
             let address = octets::number32(bytes, 1);
-            let outcome = writes::write(tag, is_sound, session, address, &bytes[5..]);
-            reply_with(output, outcome.answer, outcome.session)
+            let outcome = writes::write(tag, is_sound, *session, address, &bytes[5..]);
+            replace(session, outcome.session);
+            command_log::put_answer(output, outcome.answer)
         }
         Next::Advance => {
             let segment = octets::number16(bytes, 1);
-            let answer = moves::advance(tag, is_sound, session, segment);
-            reply_with(output, answer, session)
+            let answer = moves::advance(tag, is_sound, *session, segment);
+            command_log::put_answer(output, answer)
         }
         Next::Insert => {
             let segment = octets::number16(bytes, 1);
             let host = octets::sixteen(&bytes[3..]);
-            let answer = moves::insert(tag, is_sound, session, segment, host);
-            reply_with(output, answer, session)
+            let answer = moves::insert(tag, is_sound, *session, segment, host);
+            command_log::put_answer(output, answer)
         }
     }
 }
@@ -178,16 +180,14 @@ pub fn run(tag: &mut [u8], session: Session, log: &[u8], output: &mut [u8]) -> r
             return stopped(read, written, Stop::OutputFull, session);
         }
         let end = read + command_log::length_of(next);
-        let replied = reply_to(
+        written += reply_to(
             tag,
             is_sound,
-            session,
+            &mut session,
             next,
             &log[read..end],
             &mut output[written..],
         );
-        session = replied.session;
-        written += replied.written;
         if next.is_none() {
             return stopped(read, written, Stop::BadCommand, session);
         }

@@ -6,50 +6,39 @@
 mod carrying;
 mod judging;
 
-ghost use Rattle.std.specs.Prelude.{◌≡◌, true, Ok};
+ghost use Rattle.std.specs.Prelude.{◌≡◌, true};
 ghost use Rattle.rules.specs.Map.{sound};
 ghost use Rattle.rules.specs.State.{state};
-ghost use Rattle.rules.specs.Command.{after};
 ghost use Rattle.rules.specs.Command as command;
-ghost use Rattle.writes.specs.Verdict.{WriteJudged};
 ghost use Rattle.rules.specs.Calls.{CarriedOut};
 ghost use Rattle.xxtea.specs.Block.{E};
 
 use judging::Act;
 use rules::{Outcome, Refusal, Session};
 
-// A write that is granted. A register takes its data by itself, since the session changes too.
-fn grant(tag: &mut [u8], session: Session, at: usize, data: &[u8], act: Act) -> Session
-    requires { (sound tag.old ≡ true) × WriteJudged (state tag.old session) at «data».now (Ok act) }
-    ensures { state tag.new result ≡ after E (state tag.old session) (command.write at «data».now) }
-{
-    match act {
-        Act::Take(register) => registers::take(tag, session, register, data),
-        _ => {
-            carrying::carry_out(tag, at, data, act);
-            session
-        }
-    }
-}
-
-// A write on a sound tag: judged, and then carried out.
+// A write on a sound tag: judged, and then carried out. A register takes its data by itself, since the session changes too.
+// What is handed back is made first and not in each arm: the session is then copied once.
 fn write_sound(tag: &mut [u8], session: Session, at: usize, data: &[u8]) -> Outcome
     requires { sound tag.old ≡ true }
     ensures { CarriedOut E (state tag.old session) (command.write at «data».now) tag.new result }
 {
+    let mut outcome = Outcome {
+        session,
+        answer: Ok(()),
+    };
     match judging::judge_write(tag, session, at, data) {
-        Ok(act) => Outcome {
-            session: grant(tag, session, at, data, act),
-            answer: Ok(()),
+        Ok(act) => match act {
+            Act::Take(register) => {
+                outcome.session = registers::take(tag, session, register, data);
+            }
+            _ => carrying::carry_out(tag, at, data, act),
         },
         Err(refusal) => {
             carrying::note_refusal(tag, refusal);
-            Outcome {
-                session,
-                answer: Err(refusal),
-            }
+            outcome.answer = Err(refusal);
         }
     }
+    outcome
 }
 
 // A write on any bytes whatever. The caller has tested whether the tag is sound (`layout::sound` has why a `bool` says so).
