@@ -1,5 +1,5 @@
 // The arguments, and the two files that are read whole.
-ghost use Rattle.std.specs.Prelude.{◌≡◌, ◌≢◌, ◌+◌, ◌<◌, ◌≤◌, ◌^◌, [], take, length, vec_len, string_bytes, Ok, IfOk, IfSome};
+ghost use Rattle.std.specs.Prelude.{◌≡◌, ◌≢◌, ◌<◌, ◌≤◌, [], take, length, string_bytes, Ok, IfOk, IfSome};
 ghost use Rattle.replay.specs.Inputs.{AtMost};
 
 use crate::fault::{Fault, Reason, Role};
@@ -46,8 +46,8 @@ pub fn argument(
     }
 }
 
-// Reads to the end of the input or of the buffer. Each read is offered all that is left of the buffer, since an input that
-// comes in messages loses what a read leaves of one: std's `read_to_end` begins with 512 bytes.
+// Reads to the end of the input or of the buffer, and says how much. Each read is offered all that is left of the buffer, since
+// an input that comes in messages loses what a read leaves of one: std's `read_to_end` begins with 512 bytes.
 fn fill<R: Read>(input: &mut R, buffer: &mut [u8]) -> io::Result<usize>
     ensures within { IfOk result (λ n. n ≤ length buffer.new) }
     ensures known { IfSome (R.remaining input.old) (λ bytes. IfOk result (λ n. take n buffer.new ≡ take (length buffer.old) bytes)) }
@@ -63,55 +63,44 @@ fn fill<R: Read>(input: &mut R, buffer: &mut [u8]) -> io::Result<usize>
     Ok(done)
 }
 
-// One byte more is read than the input may have, so that a longer one is seen.
-fn read_up_to<R: Read + Drop>(alloc: Global, mut input: R, most: usize) -> io::Result<Vec<u8>>
-    requires { most < 2 ^ 32 }
-    ensures few { IfOk result (λ read. vec_len read ≤ most + 1) }
-    ensures known { IfSome (R.remaining input) (λ bytes. IfOk result (λ read. read.items ≡ take (most + 1) bytes)) }
+fn read_file(rt: &impl Runtime, path: &str, buffer: &mut [u8]) -> io::Result<usize>
+    ensures { IfOk result (λ n. n ≤ length buffer.new) }
 {
-    let mut read = vec![in alloc; 0; most + 1]?;
-    let n = fill(&mut input, &mut read)?;
-    read.truncate(n);
-    Ok(read)
+    let mut file = fs::open(rt, path)?;
+    fill(&mut file, buffer)
 }
 
-fn read_file(rt: &(impl Runtime + AllocGlobal), path: &str, most: usize) -> io::Result<Vec<u8>>
-    requires { most < 2 ^ 32 }
-    ensures { IfOk result (λ read. vec_len read ≤ most + 1) }
-{
-    read_up_to(rt.alloc(), fs::open(rt, path)?, most)
-}
-
-// What was read, where it is no longer than it may be.
-fn whole(role: Role, path: String, read: io::Result<Vec<u8>>, most: usize) -> Result<Vec<u8>, Fault>
+// How many bytes were read, where they are no more than they may be. The buffer has room for one more, so that a longer input
+// is seen.
+fn whole(role: Role, path: String, read: io::Result<usize>, most: usize) -> Result<usize, Fault>
     ensures most { AtMost most result }
-    ensures same { IfOk result (λ bytes. read ≡ Ok bytes) }
+    ensures same { IfOk result (λ n. read ≡ Ok n) }
 {
     match read {
-        Ok(bytes) if bytes.len() > most => Err(Fault::TooLong(role, path, most)),
-        Ok(bytes) => Ok(bytes),
+        Ok(n) if n > most => Err(Fault::TooLong(role, path, most)),
+        Ok(n) => Ok(n),
         Err(error) => Err(Fault::NotRead(role, path, Reason(error))),
     }
 }
 
-pub fn read_image(rt: &(impl Runtime + AllocGlobal), path: String) -> Result<Vec<u8>, Fault>
-    ensures least { IfOk result (λ image. 0 < vec_len image) }
+pub fn read_image(rt: &impl Runtime, path: String, image: &mut [u8; 65537]) -> Result<usize, Fault>
+    ensures least { IfOk result (λ n. 0 < n) }
     ensures most { AtMost 65536 result }
 {
-    match read_file(rt, path.as_str(), IMAGE_MOST) {
-        Ok(image) if image.is_empty() => Err(Fault::Empty(Role::Image, path)),
+    match read_file(rt, path.as_str(), image) {
+        Ok(0) => Err(Fault::Empty(Role::Image, path)),
         read => whole(Role::Image, path, read, IMAGE_MOST),
     }
 }
 
 // It may be empty, and `-` is standard input.
-pub fn read_log(rt: &(impl Runtime + AllocGlobal), path: String) -> Result<Vec<u8>, Fault>
+pub fn read_log(rt: &impl Runtime, path: String, log: &mut [u8; 1048577]) -> Result<usize, Fault>
     ensures { AtMost 1048576 result }
 {
     let read = if path.as_str() == "-" {
-        read_up_to(rt.alloc(), rt.reader(), LOG_MOST)
+        fill(&mut rt.reader(), log)
     } else {
-        read_file(rt, path.as_str(), LOG_MOST)
+        read_file(rt, path.as_str(), log)
     };
     whole(Role::Log, path, read, LOG_MOST)
 }
@@ -120,16 +109,18 @@ pub fn read_log(rt: &(impl Runtime + AllocGlobal), path: String) -> Result<Vec<u
 mod tests {
     use super::*;
 
-    // What no contract can say: that memory is left for a name and for what is read.
+    // What no contract can say: that memory is left for a name, and that a file is read.
     #[test]
     fn names_and_files_are_taken(rt: HostRuntime) -> io::Result<()> {
         let alloc = rt.alloc();
         fs::write(&rt, "tried.input", b"\x00")?;
-        let image = read_image(&rt, String::from_str(alloc, "tried.input")?);
-        let log = read_log(&rt, String::from_str(alloc, "tried.input")?);
+        let mut image = [1u8; 65537];
+        let mut log = [1u8; 1048577];
+        let size = read_image(&rt, String::from_str(alloc, "tried.input")?, &mut image);
+        let length = read_log(&rt, String::from_str(alloc, "tried.input")?, &mut log);
         fs::remove_file(&rt, "tried.input")?;
-        assert!(rt; image.is_ok_and(|image| image.first() == Some(&0)));
-        assert!(rt; log.is_ok_and(|log| log.first() == Some(&0)));
+        assert!(rt; matches!(size, Ok(1)) && image[0] == 0);
+        assert!(rt; matches!(length, Ok(1)) && log[0] == 0);
         assert!(rt; matches!(argument(&rt, 0, Role::Image), Some(Ok(_))));
         Ok(())
     }

@@ -18,7 +18,8 @@ use std::rt::Runtime;
 
 // What the run came to, and whether the image after it was kept where it was to be. Nothing is written before both files are
 // read; where the replies could not be written, no image is. What is wrong with a name is said where the name is used, and a
-// fourth argument is one too many, whatever it is.
+// fourth argument is one too many, whatever it is. Image and log are on the stack, for which ./replay provides: a `Vec` with
+// room for each would ask for as much memory beside it.
 fn replay(rt: &(impl Runtime + AllocGlobal)) -> Result<(Run, Result<(), Fault>), Fault> {
     let (Some(image), Some(log), new, None) = (
         argument(rt, 1, Role::Image),
@@ -28,11 +29,14 @@ fn replay(rt: &(impl Runtime + AllocGlobal)) -> Result<(Run, Result<(), Fault>),
     ) else {
         return Err(Fault::Usage);
     };
-    let mut image = input::read_image(rt, image?)?;
-    let log = input::read_log(rt, log?)?;
-    let run = running::run_log(rt, &mut image, &log)?;
+    let mut image_buffer = [0u8; 65537];
+    let size = input::read_image(rt, image?, &mut image_buffer)?;
+    let image = &mut image_buffer[..size];
+    let mut log_buffer = [0u8; 1048577];
+    let length = input::read_log(rt, log?, &mut log_buffer)?;
+    let run = running::run_log(rt, image, &log_buffer[..length])?;
     let kept = match new {
-        Some(Ok(name)) => keeping::keep_image(rt, name, &image),
+        Some(Ok(name)) => keeping::keep_image(rt, name, image),
         Some(Err(fault)) => Err(fault),
         None => Ok(()),
     };

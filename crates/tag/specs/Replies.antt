@@ -43,13 +43,12 @@ pub record Replied : Type 0 where
 abbrev pub replied : ℕ → Session → Replied
 replied n v = record { written = n; session = v }
 
--- the answer a, replied so, and the session v: x is handed back
+-- the answer a, replied so, and the session v: x is what is left of both
 pub record Answered (a : Answer) (v : Session) (out o : List ℕ) (x : Replied) : Type 0 where
   pub written : Written (reply_of a done) out o x.written
   pub session : x.session ≡ v
 
--- the command that comes next, carried out on the state s and replied to: x is handed back, and the tag t and the
--- output o are left
+-- the command that comes next, carried out on the state s and replied to: x, the tag t and the output o are left
 pub record Replies (E : Cipher) (s : State) (q : Option (Command × ℕ)) (out t o : List ℕ) (x : Replied) : Type 0 where
   pub left : state t x.session ≡ after_for E s q
   pub written : Written (reply_for E s q) out o x.written
